@@ -11,8 +11,8 @@ use Rattle.ns_code.specs.Selector.{has_name, name_number, own_text_at, selector_
 use Rattle.ns_facets.specs.Board.{value_of}
 use Rattle.ns_facets.specs.declared.board.Plain.{Plain}
 use Rattle.ns_facets.specs.declared.board.Plain.TheVariants as plain
-use Rattle.ns_machine_moves.specs.Beginning.{MayBegin}
-use Rattle.ns_machine_moves.specs.State.{State, Unbegun, Going, Pends, Ended, Stuck, ending_of, is_idle, world_of}
+use Rattle.ns_moves.specs.Beginning.{MayBegin}
+use Rattle.ns_moves.specs.State.{State, Unbegun, Going, Pends, Ended, Stuck, ending_of, is_idle, world_of}
 use Rattle.ns_world.specs.Heap.{Heap}
 use Rattle.ns_world.specs.Lawful.{IsLiveValue}
 use Rattle.ns_world.specs.declared.ending.Ending.{Ending}

@@ -9,13 +9,13 @@ use Rattle.ns_base.specs.declared.selector.Sel.{Sel}
 use Rattle.ns_facets.specs.Board.{value_of}
 use Rattle.ns_facets.specs.declared.row.Grants.{Grants}
 use Rattle.ns_run_code.specs.Machine.{rested}
-use Rattle.ns_machine_moves.specs.Beginning.{HostKeepsValid}
-use Rattle.ns_machine_moves.specs.Onward.{MovesGoOnward}
-use Rattle.ns_machine_moves.specs.Standing.{MovesKeepValid}
-use Rattle.ns_machine_moves.specs.Starts.{begun}
-use Rattle.ns_machine_moves.specs.State.{Start, First, Second, Hosted, State, Unbegun, Going, Pends, Ended, Stuck, ending_of, is_idle, world_of}
-use Rattle.ns_machine_moves.specs.Turn.{is_still}
-use Rattle.ns_machine_moves.specs.Valid.{Valid}
+use Rattle.ns_moves.specs.Beginning.{HostKeepsValid}
+use Rattle.ns_moves.specs.MovesOnward.{MovesGoOnward}
+use Rattle.ns_moves.specs.Standing.{MovesKeepValid}
+use Rattle.ns_moves.specs.Starts.{begun}
+use Rattle.ns_moves.specs.State.{Start, First, Second, Hosted, State, Unbegun, Going, Pends, Ended, Stuck, ending_of, is_idle, world_of}
+use Rattle.ns_moves.specs.Turn.{is_still}
+use Rattle.ns_moves.specs.Valid.{Valid}
 use Rattle.ns_session.specs.Member.{Application, MayStart}
 use Rattle.ns_session.specs.Reached.{HasBegun, StateIsReached}
 use Rattle.ns_session.specs.Turned.{turned}

@@ -8,10 +8,10 @@ use Rattle.ns_code.specs.Selector.{has_name}
 use Rattle.ns_facets.specs.Board.{value_of}
 use Rattle.ns_facets.specs.declared.row.Grants.{Grants}
 use Rattle.ns_machine.specs.Asking.{named}
-use Rattle.ns_machine_moves.specs.Beginning.{HostKeepsValid}
-use Rattle.ns_machine_moves.specs.Charging.{will_charge}
-use Rattle.ns_machine_moves.specs.Starts.{begun}
-use Rattle.ns_machine_moves.specs.State.{State, Unbegun, Going, Pends, Ended, Stuck, ending_of, is_idle, world_of}
+use Rattle.ns_moves.specs.Beginning.{HostKeepsValid}
+use Rattle.ns_moves.specs.Charging.{will_charge}
+use Rattle.ns_moves.specs.Starts.{begun}
+use Rattle.ns_moves.specs.State.{State, Unbegun, Going, Pends, Ended, Stuck, ending_of, is_idle, world_of}
 use Rattle.ns_session.specs.Member.{Application}
 use Rattle.ns_session.specs.Reached.{StateIsReached}
 use Rattle.ns_world.specs.World.{World}

@@ -4,8 +4,8 @@ use Rattle.std.proofs.Common.{◌≡◌, ◌<◌, ◌≤◌, ◌⊎◌, inl, inr
 use Rattle.std.specs.Prelude.{slice_set}
 use Rattle.std.proofs.lemmas.Option.{same_Some}
 use Rattle.ns_base.specs.declared.limits.Limits.{Limits}
-use Rattle.ns_machine_moves.specs.Doubling.{times}
-use Rattle.ns_machine_moves.specs.laws.Doubling.{leads}
+use Rattle.ns_moves.specs.Doubling.{times}
+use Rattle.ns_moves.specs.laws.Doubling.{leads}
 use Rattle.ns_actors.specs.Actor.{ActorView, Stage, Opening, Between, Sending, Holding, Stopped}
 use Rattle.ns_actors.specs.Rounds.{all_rest, at_rest, power_of_rounds, rests_at, round_from, round_of, rounds}
 use Rattle.ns_actors.specs.Turn.{ActorsView, next_taken, settled, turn_at, turn_for, turn_of, with_actor}

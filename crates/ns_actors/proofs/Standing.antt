@@ -4,15 +4,15 @@ use Rattle.ns_code.specs.declared.program.CodeProgram.{CodeProgram}
 use Rattle.ns_code.specs.Selector.{has_name}
 use Rattle.ns_facets.specs.Board.{value_of}
 use Rattle.ns_facets.specs.declared.row.Grants.{Grants}
-use Rattle.ns_machine_moves.specs.Doubling.{times}
-use Rattle.ns_machine_moves.specs.Falling.{power_left}
-use Rattle.ns_machine_moves.specs.laws.Doubling.{leads}
+use Rattle.ns_moves.specs.Doubling.{times}
+use Rattle.ns_moves.specs.Falling.{power_left}
+use Rattle.ns_moves.specs.laws.Doubling.{leads}
 use Rattle.ns_run_code.specs.Machine.{rested}
-use Rattle.ns_machine_moves.specs.Move.{move, moves}
-use Rattle.ns_machine_moves.specs.Starts.{begun}
-use Rattle.ns_machine_moves.specs.State.{State, Unbegun, Going, Pends, Ended, Stuck, ending_of, world_of}
-use Rattle.ns_machine_moves.specs.Turn.{charges, is_still}
-use Rattle.ns_machine_moves.specs.Valid.{Valid}
+use Rattle.ns_moves.specs.Move.{move, moves}
+use Rattle.ns_moves.specs.Starts.{begun}
+use Rattle.ns_moves.specs.State.{State, Unbegun, Going, Pends, Ended, Stuck, ending_of, world_of}
+use Rattle.ns_moves.specs.Turn.{charges, is_still}
+use Rattle.ns_moves.specs.Valid.{Valid}
 use Rattle.ns_session.specs.Member.{Application}
 use Rattle.ns_session.specs.Turned.{TurnUnderway, is_over, moved_on, steps_behind, turned}
 use Rattle.ns_world.specs.declared.ending.Ending.{Ending}

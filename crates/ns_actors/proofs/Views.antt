@@ -6,9 +6,9 @@ use Rattle.std.proofs.lemmas.Option.{same_Some}
 use Rattle.std.proofs.lemmas.List.Elements.{All-append, All-filter, All-nil, All-cons}
 use Rattle.ns_code.specs.declared.program.CodeProgram.{CodeProgram}
 use Rattle.ns_facets.specs.declared.row.Grants.{Grants}
-use Rattle.ns_machine_moves.specs.Beginning.{HostKeepsValid}
-use Rattle.ns_machine_moves.specs.Onward.{MovesGoOnward}
-use Rattle.ns_machine_moves.specs.Standing.{MovesKeepValid}
+use Rattle.ns_moves.specs.Beginning.{HostKeepsValid}
+use Rattle.ns_moves.specs.MovesOnward.{MovesGoOnward}
+use Rattle.ns_moves.specs.Standing.{MovesKeepValid}
 use Rattle.ns_session.specs.Member.{Application, MayStart, start_of}
 use Rattle.ns_session.specs.Reached.{StateIsReached}
 use Rattle.ns_world.specs.Later.{Lasts}

@@ -1,8 +1,8 @@
 -- An actor: where its run stands, the letters that came to it and those that it posted.
 use Rattle.std.specs.Prelude.{ℕ, ◌-◌, List, [], Option, Some, None}
 use Rattle.ns_world.specs.declared.value.Value.{Value}
-use Rattle.ns_actions.specs.Report.{report_line}
-use Rattle.ns_machine_moves.specs.State.{State, world_of}
+use Rattle.ns_moves.specs.Report.{report_line}
+use Rattle.ns_moves.specs.State.{State, world_of}
 use Rattle.ns_session.specs.Member.{Application, start_of}
 use Rattle.ns_actors.specs.declared.letter.Letter.{Letter}
 use Rattle.ns_actors.specs.declared.turn.Stop.{Stop}

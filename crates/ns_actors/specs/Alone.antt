@@ -7,8 +7,8 @@ use Rattle.ns_world.specs.declared.ending.Ending.{Ending}
 use Rattle.ns_world.specs.declared.ending.Ending.TheVariants.{Done, Error, Limit}
 use Rattle.ns_facets.specs.Board.{value_of}
 use Rattle.ns_run_code.specs.Machine.{rested}
-use Rattle.ns_machine_moves.specs.State.{State, ending_of, world_of}
-use Rattle.ns_machine_moves.specs.Starts.{begun}
+use Rattle.ns_moves.specs.State.{State, ending_of, world_of}
+use Rattle.ns_moves.specs.Starts.{begun}
 use Rattle.ns_session.specs.Member.{Application, start_of}
 use Rattle.ns_machine.specs.Asking.{named}
 use Rattle.ns_actors.specs.declared.letter.Letter.{Letter}

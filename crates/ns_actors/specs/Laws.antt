@@ -4,10 +4,10 @@ use Rattle.std.specs.Option.{ForSome}
 use Rattle.ns_code.specs.declared.program.CodeProgram.{CodeProgram}
 use Rattle.ns_base.specs.declared.limits.Limits.{Limits}
 use Rattle.ns_code.specs.Selector.{has_name}
-use Rattle.ns_machine_moves.specs.Charging.{will_charge}
-use Rattle.ns_machine_moves.specs.Doubling.{times}
-use Rattle.ns_machine_moves.specs.State.{State, world_of}
-use Rattle.ns_machine_moves.specs.Turn.{is_still}
+use Rattle.ns_moves.specs.Charging.{will_charge}
+use Rattle.ns_moves.specs.Doubling.{times}
+use Rattle.ns_moves.specs.State.{State, world_of}
+use Rattle.ns_moves.specs.Turn.{is_still}
 use Rattle.ns_session.specs.Member.{Application, MayStart}
 use Rattle.ns_session.specs.Reached.{StateIsReached}
 use Rattle.ns_actors.specs.declared.letter.Letter.{Letter}

@@ -6,7 +6,7 @@ use Rattle.ns_base.specs.declared.status.Status.{Status}
 use Rattle.ns_base.specs.declared.status.Status.TheVariants.{Done, ProgramError}
 use Rattle.ns_code.specs.declared.program.CodeProgram.{CodeProgram}
 use Rattle.ns_facets.specs.declared.board.Plain.TheVariants.{Int}
-use Rattle.ns_machine_moves.specs.Doubling.{until}
+use Rattle.ns_moves.specs.Doubling.{until}
 use Rattle.ns_run_code.specs.Run.{granted}
 use Rattle.ns_session.specs.Member.{Application}
 use Rattle.ns_actors.specs.declared.letter.Letter.{Letter}

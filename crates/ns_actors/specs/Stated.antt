@@ -5,8 +5,8 @@ use Rattle.ns_code.specs.Selector.{has_name, text_arity}
 use Rattle.ns_base.specs.Spelling.{is_selector}
 use Rattle.ns_world.specs.declared.ending.Ending.TheVariants.{Done}
 use Rattle.ns_run_code.specs.Machine.{rested}
-use Rattle.ns_machine_moves.specs.State.{ending_of, world_of}
-use Rattle.ns_machine_moves.specs.Turn.{is_still}
+use Rattle.ns_moves.specs.State.{ending_of, world_of}
+use Rattle.ns_moves.specs.Turn.{is_still}
 use Rattle.ns_session.specs.Member.{MayStart}
 use Rattle.ns_session.specs.Reached.{StateIsReached}
 use Rattle.ns_world.specs.declared.value.Value.{Value}

@@ -5,8 +5,8 @@ use Rattle.ns_world.specs.declared.value.Value.{Value}
 use Rattle.ns_world.specs.declared.ending.Ending.{Ending}
 use Rattle.ns_world.specs.declared.ending.Ending.TheVariants.{Done, Error, Limit}
 use Rattle.ns_facets.specs.Board.{value_of}
-use Rattle.ns_machine_moves.specs.State.{ending_of, world_of}
-use Rattle.ns_machine_moves.specs.Starts.{begun}
+use Rattle.ns_moves.specs.State.{ending_of, world_of}
+use Rattle.ns_moves.specs.Starts.{begun}
 use Rattle.ns_session.specs.Member.{Application}
 use Rattle.ns_session.specs.Turned.{turned}
 use Rattle.ns_machine.specs.Asking.{named}

@@ -29,8 +29,8 @@ pub fn actors_stay_alone()
     ensures turns { TurnsKeepAlone }
     ensures held { HeldTurnsKeepAlone }
 {
-    ns_machine_moves::valid_world::sends_of_a_host_are_valid();
-    ns_machine_moves::valid_frames::moves_keep_valid();
+    ns_moves::valid_world::sends_of_a_host_are_valid();
+    ns_moves::valid_frames::moves_keep_valid();
     ns_run_code::laws::valid_runs_come_to_rest();
 }
 
@@ -43,9 +43,9 @@ pub fn actors_stay_actors()
     ensures held { HeldTurnsKeepActors }
 {
     ns_world::later::what_lives_stays();
-    ns_machine_moves::laws::moves_go_onward();
-    ns_machine_moves::valid_world::sends_of_a_host_are_valid();
-    ns_machine_moves::valid_frames::moves_keep_valid();
+    ns_moves::move_laws::moves_go_onward();
+    ns_moves::valid_world::sends_of_a_host_are_valid();
+    ns_moves::valid_frames::moves_keep_valid();
     ns_run_code::laws::valid_runs_come_to_rest();
     ns_session::laws::applications_stay_in_reach();
     ns_session::laws::begun_runs_stay_begun();
@@ -63,7 +63,7 @@ pub fn rounds_come_to_rest()
 pub fn sends_begin_in_reach()
     ensures { SendsBegin }
 {
-    ns_machine_moves::valid_world::sends_of_a_host_are_valid();
+    ns_moves::valid_world::sends_of_a_host_are_valid();
 }
 
 /// An outbox has at most as many letters as the world has cells; so the one with which a run has ended has at most as many as the

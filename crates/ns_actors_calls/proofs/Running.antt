@@ -8,9 +8,9 @@ use Rattle.ns_world.specs.declared.ending.Ending.{Ending}
 use Rattle.ns_world.specs.declared.ending.Ending.TheVariants.{Done, Error, Limit}
 use Rattle.ns_world.specs.declared.value.Value.{Value}
 use Rattle.ns_machine.specs.Machine.{MachineView}
-use Rattle.ns_machine_moves.specs.State.{State, ending_of, world_of}
-use Rattle.ns_machine_moves.specs.Turn.{Turns}
-use Rattle.ns_machine_moves.specs.Valid.{Valid}
+use Rattle.ns_moves.specs.State.{State, ending_of, world_of}
+use Rattle.ns_moves.specs.Turn.{Turns}
+use Rattle.ns_moves.specs.Valid.{Valid}
 use Rattle.ns_session.specs.Member.{Application}
 use Rattle.ns_session.specs.RobinLaws.{TurnsAreTurned}
 use Rattle.ns_session.specs.Turned.{turned}

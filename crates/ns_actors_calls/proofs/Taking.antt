@@ -19,8 +19,8 @@ use Rattle.ns_world.specs.declared.ending.Ending.TheVariants.{Done, Error, Limit
 use Rattle.ns_world.specs.declared.value.Value.{Value}
 use Rattle.ns_machine.specs.Asking.{HasSelector, MayAsk, named}
 use Rattle.ns_machine.specs.Machine.{MachineView}
-use Rattle.ns_machine_moves.specs.Starts.{begun}
-use Rattle.ns_machine_moves.specs.State.{State, Unbegun, Going, Pends, Ended, Stuck, ending_of, is_idle, world_of}
+use Rattle.ns_moves.specs.Starts.{begun}
+use Rattle.ns_moves.specs.State.{State, Unbegun, Going, Pends, Ended, Stuck, ending_of, is_idle, world_of}
 use Rattle.ns_actors.specs.declared.letter.Letter.{Letter}
 use Rattle.ns_actors.specs.declared.turn.ActorTurn.TheVariants as turn
 use Rattle.ns_actors.specs.Actor.{ActorView, Stage, Between}

@@ -1,6 +1,6 @@
 -- What is seen of actors as they are kept.
 use Rattle.std.specs.Prelude.{List, [], Option, Some, None, Bool}
-use Rattle.ns_machine_moves.specs.State.{State}
+use Rattle.ns_moves.specs.State.{State}
 use Rattle.ns_session.specs.Member.{Application}
 use Rattle.ns_actors.specs.declared.letter.Letter.{Letter}
 use Rattle.ns_actors.specs.declared.turn.Stop.{Stop}

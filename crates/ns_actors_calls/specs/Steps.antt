@@ -6,8 +6,8 @@ use Rattle.ns_code.specs.Selector.{has_name, text_arity}
 use Rattle.ns_facets.specs.Board.{value_of}
 use Rattle.ns_world.specs.declared.value.Value.{Value}
 use Rattle.ns_world.specs.Lawful.{IsLiveValue}
-use Rattle.ns_machine_moves.specs.Starts.{begun}
-use Rattle.ns_machine_moves.specs.State.{State, is_idle, world_of}
+use Rattle.ns_moves.specs.Starts.{begun}
+use Rattle.ns_moves.specs.State.{State, is_idle, world_of}
 use Rattle.ns_machine.specs.Asking.{named}
 use Rattle.ns_machine.specs.Machine.{MachineView}
 use Rattle.ns_actors.specs.declared.letter.Letter.{Letter}

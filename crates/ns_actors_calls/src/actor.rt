@@ -4,8 +4,8 @@ ghost use Rattle.std.specs.Prelude.{◌≡◌, ◌<◌, ◌++◌, ℕ, Some, tru
 ghost use Rattle.ns_base.specs.Limits.{InRange};
 ghost use Rattle.ns_code.specs.Selector.{has_name};
 ghost use Rattle.ns_facets.specs.Board.{value_of};
-ghost use Rattle.ns_actions.specs.Report.{report_line};
-ghost use Rattle.ns_machine_moves.specs.State.{ending_of, world_of};
+ghost use Rattle.ns_moves.specs.Report.{report_line};
+ghost use Rattle.ns_moves.specs.State.{ending_of, world_of};
 ghost use Rattle.ns_session.specs.Turned.{turned};
 ghost use Rattle.ns_world.specs.declared.ending.Ending.TheVariants.{Done};
 ghost use Rattle.ns_actors.specs.Actor.{Between, report_of, starting};

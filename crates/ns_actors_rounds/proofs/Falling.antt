@@ -2,15 +2,15 @@
 use Rattle.std.proofs.Common.{◌≡◌, ◌<◌, ◌≤◌, ℕ, zero, suc, ◌+◌, ◌-◌, inl, inr, refl, sym, ap, ◌∙◌, subst, arith, Option, Some, None, Bool, true, false}
 use Rattle.ns_code.specs.declared.program.CodeProgram.{CodeProgram}
 use Rattle.ns_facets.specs.declared.row.Grants.{Grants}
-use Rattle.ns_machine_moves.specs.Charges.{MoveTook, TakesAsTold}
-use Rattle.ns_machine_moves.specs.Charging.{will_charge}
-use Rattle.ns_machine_moves.specs.Move.{move, moves}
-use Rattle.ns_machine_moves.specs.Onward.{MovesGoOnward}
-use Rattle.ns_machine_moves.specs.Standing.{MovesKeepValid}
-use Rattle.ns_machine_moves.specs.State.{State, Unbegun, Going, Pends, Ended, Stuck, ending_of, progress_of, world_of}
-use Rattle.ns_machine_moves.specs.Stated.{StaysStill}
-use Rattle.ns_machine_moves.specs.Turn.{is_still, ends_with_steps, Turns}
-use Rattle.ns_machine_moves.specs.laws.Still.{can_move, limited_still}
+use Rattle.ns_moves.specs.Charges.{MoveTook, TakesAsTold}
+use Rattle.ns_moves.specs.Charging.{will_charge}
+use Rattle.ns_moves.specs.Move.{move, moves}
+use Rattle.ns_moves.specs.MovesOnward.{MovesGoOnward}
+use Rattle.ns_moves.specs.Standing.{MovesKeepValid}
+use Rattle.ns_moves.specs.State.{State, Unbegun, Going, Pends, Ended, Stuck, ending_of, progress_of, world_of}
+use Rattle.ns_moves.specs.StatedMoves.{StaysStill}
+use Rattle.ns_moves.specs.Turn.{is_still, ends_with_steps, Turns}
+use Rattle.ns_moves.specs.laws.Still.{can_move, limited_still}
 use Rattle.ns_world.specs.declared.ending.Ending.{Ending}
 use Rattle.ns_world.specs.declared.ending.Ending.TheVariants.{Done, Error, Limit}
 use Rattle.ns_world.specs.declared.value.Value.{Value}

@@ -5,7 +5,7 @@ use Rattle.std.proofs.Math.Nat.{mul-le-mul_right, suc-mul}
 use Rattle.std.proofs.lemmas.Bool.{eqb-false}
 use Rattle.ns_base.specs.declared.limits.Limits.{Limits}
 use Rattle.ns_code.specs.Selector.{has_name}
-use Rattle.ns_machine_moves.specs.State.{State, ending_of, world_of}
+use Rattle.ns_moves.specs.State.{State, ending_of, world_of}
 use Rattle.ns_session.specs.Reached.{StateIsReached}
 use Rattle.ns_session.specs.Turned.{turned}
 use Rattle.ns_world.specs.World.{World}

@@ -9,7 +9,7 @@ use Rattle.ns_code.specs.declared.program.CodeProgram.{CodeProgram}
 use Rattle.ns_json.specs.declared.saying.Actor.{Actor}
 use Rattle.ns_machine.specs.Machine.{MachineView}
 use Rattle.ns_json.specs.declared.saying.Stage as parts
-use Rattle.ns_machine_moves.specs.State.{State, world_of}
+use Rattle.ns_moves.specs.State.{State, world_of}
 use Rattle.ns_actors.specs.Actor.{ActorView, Stage, Opening, Between, Sending, Holding, Stopped}
 use Rattle.ns_actors.specs.Stated.{AreActors, IsActor, StandsAt}
 use Rattle.ns_actors.specs.Turn.{ActorsView}

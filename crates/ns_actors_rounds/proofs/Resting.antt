@@ -3,8 +3,8 @@ use Rattle.std.proofs.Common.{◌≡◌, ◌<◌, ◌≤◌, ℕ, zero, suc, ◌
 use Rattle.std.proofs.lemmas.Bool.{eqb-false}
 use Rattle.std.proofs.lemmas.Option.{same_Some}
 use Rattle.ns_base.specs.declared.limits.Limits.{Limits}
-use Rattle.ns_machine_moves.specs.Doubling.{times}
-use Rattle.ns_machine_moves.specs.laws.Doubling.{leads}
+use Rattle.ns_moves.specs.Doubling.{times}
+use Rattle.ns_moves.specs.laws.Doubling.{leads}
 use Rattle.ns_actors.specs.Actor.{ActorView}
 use Rattle.ns_actors.specs.Laws.{EndsAreShort, RestingRoundsStay, RestingTurnsStay, RoundsEnd, RoundsLower, SendsBegin, StepsAreWithin, TurnsKeepActors}
 use Rattle.ns_actors.specs.Rounds.{all_rest, at_rest, power_of_rounds, rests_at, round_from, round_of, rounds}

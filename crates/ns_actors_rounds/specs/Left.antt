@@ -1,7 +1,7 @@
 -- How much actors can still do: it falls with each turn of an actor that doesn't rest.
 use Rattle.std.specs.Prelude.{ℕ, ◌+◌, ◌-◌, ◌*◌, List, [], ◌∷◌, length}
 use Rattle.ns_base.specs.declared.limits.Limits.{Limits}
-use Rattle.ns_machine_moves.specs.State.{world_of}
+use Rattle.ns_moves.specs.State.{world_of}
 use Rattle.ns_actors.specs.Actor.{ActorView, Stage, Opening, Between, Sending, Holding, Stopped}
 use Rattle.ns_actors.specs.Turn.{ActorsView}
 

@@ -4,7 +4,7 @@ use Rattle.ns_code.specs.declared.program.CodeProgram.{CodeProgram}
 use Rattle.ns_json.specs.declared.saying.Actor.{Actor}
 use Rattle.ns_json.specs.declared.saying.Stage as parts
 use Rattle.ns_json.specs.declared.saying.Stage.TheVariants as part
-use Rattle.ns_machine_moves.specs.State.{State, world_of}
+use Rattle.ns_moves.specs.State.{State, world_of}
 use Rattle.ns_run_told.specs.Told.{told_end}
 use Rattle.ns_actors.specs.Actor.{ActorView, Stage, Opening, Between, Sending, Holding, Stopped}
 use Rattle.ns_actors.specs.Turn.{ActorsView}

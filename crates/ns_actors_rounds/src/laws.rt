@@ -14,10 +14,10 @@ pub fn rounds_leave_less()
     ns_actors::laws::rounds_come_to_rest();
     ns_actors::laws::sends_begin_in_reach();
     ns_actors::laws::steps_are_within();
-    ns_machine_moves::laws::ended_runs_stay();
-    ns_machine_moves::laws::moves_charge_as_told();
-    ns_machine_moves::laws::moves_go_onward();
-    ns_machine_moves::valid_frames::moves_keep_valid();
+    ns_moves::move_laws::ended_runs_stay();
+    ns_moves::move_laws::moves_charge_as_told();
+    ns_moves::move_laws::moves_go_onward();
+    ns_moves::valid_frames::moves_keep_valid();
     ns_session::laws::applications_stay_in_reach();
     ns_session::laws::turns_use_steps_up();
     ns_session::robin_laws::turns_are_made();

@@ -4,7 +4,7 @@ ghost use Rattle.std.specs.Prelude.{◌≡◌, ◌<◌, IfOk, Some, length, slic
 ghost use Rattle.ns_actors.specs.Actor.{ActorView};
 ghost use Rattle.ns_actors_rounds.specs.Parts as spec;
 ghost use Rattle.ns_actors_rounds.specs.Stops as stops;
-ghost use Rattle.ns_machine_moves.specs.State.{ending_of, world_of};
+ghost use Rattle.ns_moves.specs.State.{ending_of, world_of};
 ghost use Rattle.ns_run_told.specs.Told.{told_end as told_end_lem};
 
 use ns_actors::turn::Stop;

@@ -7,7 +7,7 @@ use Rattle.ns_code.specs.declared.program.CodeProgram.{CodeProgram}
 use Rattle.ns_code.specs.declared.body.BodyCode.{BodyCode}
 use Rattle.ns_code.specs.declared.instruction.Instr.{Instr}
 use Rattle.ns_code.specs.declared.instruction.Instr.TheVariants.{ReturnSelf}
-use Rattle.ns_machine_moves.specs.Steps.{PlacedInstr, placed, steps_of, steps_from}
+use Rattle.ns_moves.specs.Steps.{PlacedInstr, placed, steps_of, steps_from}
 use Rattle.ns_audit.specs.declared.answer.Audit.{Audit}
 use Rattle.ns_audit.specs.declared.answer.Audit.TheVariants.{Yes, Sends, Performs}
 use Rattle.ns_audit.specs.Audit.{audited, is_denied, is_perform, sent_by, told_from, told_in, told_of, told_of_body}

@@ -5,19 +5,19 @@ use Rattle.ns_base.specs.declared.selector.Sel.{Sel}
 use Rattle.ns_code.specs.declared.program.CodeProgram.{CodeProgram}
 use Rattle.ns_facets.specs.declared.board.Board.{Board}
 use Rattle.ns_facets.specs.declared.row.Grants.{Grants}
-use Rattle.ns_actions.specs.Control.{After, Gives, Halts}
-use Rattle.ns_actions.specs.Start.{start_made}
-use Rattle.ns_machine_moves.specs.State.{Running, Looping, Sending, Performing, Evaluating, State, Unbegun, Going, Pends, Ended, Stuck, swapped, is_idle}
-use Rattle.ns_machine_moves.specs.Steps.{PlacedInstr, steps_from}
-use Rattle.ns_machine_moves.specs.Move.{move}
-use Rattle.ns_machine_moves.specs.Starts.{new_machine, started, begun, unbegun}
+use Rattle.ns_moves.specs.Control.{After, Gives, Halts}
+use Rattle.ns_moves.specs.Start.{start_made}
+use Rattle.ns_moves.specs.State.{Running, Looping, Sending, Performing, Evaluating, State, Unbegun, Going, Pends, Ended, Stuck, swapped, is_idle}
+use Rattle.ns_moves.specs.Steps.{PlacedInstr, steps_from}
+use Rattle.ns_moves.specs.Move.{move}
+use Rattle.ns_moves.specs.Starts.{new_machine, started, begun, unbegun}
 use Rattle.std.proofs.lemmas.Option.{same_Some}
 use Rattle.ns_world.specs.declared.value.Value.{Value}
-use Rattle.ns_machine_moves.specs.Beginning.{NewIsValid, StartKeepsValid, HostKeepsValid}
-use Rattle.ns_machine_moves.specs.WorldStays.{SwapsKeepValid}
-use Rattle.ns_machine_moves.specs.Standing.{MovesKeepValid}
-use Rattle.ns_machine_moves.specs.Valid.{Valid}
-use Rattle.ns_machine_moves.specs.ValidFrames.{next_number}
+use Rattle.ns_moves.specs.Beginning.{NewIsValid, StartKeepsValid, HostKeepsValid}
+use Rattle.ns_moves.specs.WorldStays.{SwapsKeepValid}
+use Rattle.ns_moves.specs.Standing.{MovesKeepValid}
+use Rattle.ns_moves.specs.Valid.{Valid}
+use Rattle.ns_moves.specs.ValidFrames.{next_number}
 use Rattle.ns_audit.specs.declared.answer.Audit.TheVariants.{Yes}
 use Rattle.ns_audit.specs.Audit.{audited, is_denied, sent_by}
 use Rattle.ns_audit.specs.NextSend.{BodySend, next_send, send_of_steps, send_of}

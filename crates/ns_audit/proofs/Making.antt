@@ -9,14 +9,14 @@ use Rattle.ns_code.specs.declared.instruction.Instr.{Instr}
 use Rattle.ns_code.specs.declared.instruction.Instr.TheVariants as i
 use Rattle.ns_world.specs.declared.value.Value.{Value}
 use Rattle.ns_find.specs.declared.found.Sending.TheVariants.{Inner}
-use Rattle.ns_actions.specs.Control.{Activation, Progress}
-use Rattle.ns_actions.specs.Sends.{Target, To, ToPrivate, ToSuper, to_value}
-use Rattle.ns_actions.specs.Sends as actions
-use Rattle.ns_machine_moves.specs.State.{Leaving, Frame, Running, Looping, Sending, Performing, Evaluating, Phase, State, Unbegun, Going, Pends, Ended, Stuck}
-use Rattle.ns_machine_moves.specs.Steps.{PlacedInstr}
-use Rattle.ns_machine_moves.specs.Arrivals.{arrived}
-use Rattle.ns_machine_moves.specs.Instructions.{executed}
-use Rattle.ns_machine_moves.specs.laws.Operands.{on_top_all, taken_all}
+use Rattle.ns_moves.specs.Control.{Activation, Progress}
+use Rattle.ns_moves.specs.Sends.{Target, To, ToPrivate, ToSuper, to_value}
+use Rattle.ns_moves.specs.Sends as actions
+use Rattle.ns_moves.specs.State.{Leaving, Frame, Running, Looping, Sending, Performing, Evaluating, Phase, State, Unbegun, Going, Pends, Ended, Stuck}
+use Rattle.ns_moves.specs.Steps.{PlacedInstr}
+use Rattle.ns_moves.specs.Arrivals.{arrived}
+use Rattle.ns_moves.specs.Instructions.{executed}
+use Rattle.ns_moves.specs.laws.Operands.{on_top_all, taken_all}
 use Rattle.ns_audit.specs.Audit.{sent_by}
 use Rattle.ns_audit.specs.NextSend.{send_of}
 use Rattle.ns_audit.specs.Stated.{ComesFromSend, PerformedIsTold, SendsNext, SendsAreMade, SendsCarryPlaces}

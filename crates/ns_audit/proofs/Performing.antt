@@ -42,15 +42,15 @@ use Rattle.ns_mirror.specs.Looking.{enclosing as enclosing_value, mirrored as mi
 use Rattle.ns_mirror.specs.Mirror.{Reflected, Reflects, Refuses, reflected, mirror}
 use Rattle.ns_world.specs.declared.kernel_row.Row.{Row}
 use Rattle.ns_world.specs.declared.kernel_row.Row.TheVariants as row
-use Rattle.ns_actions.specs.declared.site.Site.{Site}
-use Rattle.ns_actions.specs.Control.{Progress, in_world, Activation, FromBody, FromClause, FromMethod, Control, Now, Enter, Evaluate, Begin, Perform, halts, fails, charged}
-use Rattle.ns_actions.specs.Bodies.{opened, enclosing, parameters_of, side_at, side_of_body}
-use Rattle.ns_actions.specs.Blocks.{block_entered, evaluated, has_arguments, method_begun, turns_of, value_with_arguments}
-use Rattle.ns_actions.specs.Classes.{head, nested, instance}
+use Rattle.ns_moves.specs.declared.site.Site.{Site}
+use Rattle.ns_moves.specs.Control.{Progress, in_world, Activation, FromBody, FromClause, FromMethod, Control, Now, Enter, Evaluate, Begin, Perform, halts, fails, charged}
+use Rattle.ns_moves.specs.Bodies.{opened, enclosing, parameters_of, side_at, side_of_body}
+use Rattle.ns_moves.specs.Blocks.{block_entered, evaluated, has_arguments, method_begun, turns_of, value_with_arguments}
+use Rattle.ns_moves.specs.Classes.{head, nested, instance}
 use Rattle.ns_world.specs.KernelTable.{row_at}
-use Rattle.ns_actions.specs.Kernel.{outcome_reached, answer_reached, message_refused, data_reached, facet_reached, reflected_reached, row_reached}
-use Rattle.ns_actions.specs.Sends.{Target, To, ToPrivate, ToSuper, found_at, receiver_of, site_at, Arguments, Listed, Wrapped, given, one_more, done_with, method_entered, factory_entered, set, nested_in, message_sel, not_found, answered_by, sent}
-use Rattle.ns_actions.specs.laws.Onward.{charged_all, opened_all}
+use Rattle.ns_moves.specs.Kernel.{outcome_reached, answer_reached, message_refused, data_reached, facet_reached, reflected_reached, row_reached}
+use Rattle.ns_moves.specs.Sends.{Target, To, ToPrivate, ToSuper, found_at, receiver_of, site_at, Arguments, Listed, Wrapped, given, one_more, done_with, method_entered, factory_entered, set, nested_in, message_sel, not_found, answered_by, sent}
+use Rattle.ns_moves.specs.laws.Onward.{charged_all, opened_all}
 use Rattle.ns_audit.proofs.Asking.{Performs, FoundAsks, RowAsks, MirrorAsks, from_asks, own_asks}
 
 -- What control asks of the selector that led there.

@@ -10,21 +10,21 @@ use Rattle.ns_world.specs.declared.ending.LimitKind.TheVariants.{Steps}
 use Rattle.ns_world.specs.World.{stepped}
 use Rattle.ns_world.specs.Booleans.{is_boolean}
 use Rattle.ns_find.specs.declared.found.Sending.TheVariants.{Inner}
-use Rattle.ns_actions.specs.declared.site.Site.{Site}
+use Rattle.ns_moves.specs.declared.site.Site.{Site}
 use Rattle.ns_world.specs.declared.kernel_parts.KMethod.{KMethod}
-use Rattle.ns_actions.specs.Control.{Progress, Activation, After, Gives, Halts, Control, Now, Enter, Evaluate, Begin, Perform, PartControl, Skip, Stop, EnterPart, Waiting, Waits, Finishes, frame_left}
-use Rattle.ns_actions.specs.Blocks.{new_text, new_block, new_array, evaluated, method_next}
-use Rattle.ns_actions.specs.Classes.{super_part, body_ended}
-use Rattle.ns_actions.specs.Sends.{Target, To, ToPrivate, ToSuper, to_value, sent}
-use Rattle.ns_actions.specs.laws.Onward.{charged_all}
-use Rattle.ns_machine_moves.specs.State.{Leaving, Loud, Silent, Frame, Running, Looping, Pending, Sending, Performing, Evaluating, Phase, Start, First, Second, Hosted, State, Unbegun, Going, Pends, Ended, Stuck}
-use Rattle.ns_machine_moves.specs.Steps.{PlacedInstr, steps_from, literal}
-use Rattle.ns_machine_moves.specs.Returns.{concluded, delivered, settled, returned, is_home, has_home, unwound, returned_home}
-use Rattle.ns_machine_moves.specs.Arrivals.{arrived, part_arrived, acted_on}
-use Rattle.ns_machine_moves.specs.Jumps.{goes_back, jumped, takes_jump, jumped_on}
-use Rattle.ns_machine_moves.specs.Instructions.{executed}
-use Rattle.ns_machine_moves.specs.Move.{move, resumed, sent_on}
-use Rattle.ns_machine_moves.specs.laws.Operands.{on_top_all, taken_all, picked_all}
+use Rattle.ns_moves.specs.Control.{Progress, Activation, After, Gives, Halts, Control, Now, Enter, Evaluate, Begin, Perform, PartControl, Skip, Stop, EnterPart, Waiting, Waits, Finishes, frame_left}
+use Rattle.ns_moves.specs.Blocks.{new_text, new_block, new_array, evaluated, method_next}
+use Rattle.ns_moves.specs.Classes.{super_part, body_ended}
+use Rattle.ns_moves.specs.Sends.{Target, To, ToPrivate, ToSuper, to_value, sent}
+use Rattle.ns_moves.specs.laws.Onward.{charged_all}
+use Rattle.ns_moves.specs.State.{Leaving, Loud, Silent, Frame, Running, Looping, Pending, Sending, Performing, Evaluating, Phase, Start, First, Second, Hosted, State, Unbegun, Going, Pends, Ended, Stuck}
+use Rattle.ns_moves.specs.Steps.{PlacedInstr, steps_from, literal}
+use Rattle.ns_moves.specs.Returns.{concluded, delivered, settled, returned, is_home, has_home, unwound, returned_home}
+use Rattle.ns_moves.specs.Arrivals.{arrived, part_arrived, acted_on}
+use Rattle.ns_moves.specs.Jumps.{goes_back, jumped, takes_jump, jumped_on}
+use Rattle.ns_moves.specs.Instructions.{executed}
+use Rattle.ns_moves.specs.Move.{move, resumed, sent_on}
+use Rattle.ns_moves.specs.laws.Operands.{on_top_all, taken_all, picked_all}
 use Rattle.ns_audit.specs.Audit.{is_perform, sent_by}
 use Rattle.ns_audit.proofs.Performing.{ControlAsks, sent_asks, NeverPerforms, evaluated_never}
 

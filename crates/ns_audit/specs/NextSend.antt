@@ -1,8 +1,8 @@
 -- The send that the next move of a run begins, with the body whose code it is.
 use Rattle.std.specs.Prelude.{ℕ, List, [], ◌∷◌, Option, Some, None, option_map}
 use Rattle.ns_base.specs.declared.selector.Sel.{Sel}
-use Rattle.ns_machine_moves.specs.State.{Frame, Running, Looping, Pending, Sending, Performing, Evaluating, State, Unbegun, Going, Pends, Ended, Stuck}
-use Rattle.ns_machine_moves.specs.Steps.{PlacedInstr}
+use Rattle.ns_moves.specs.State.{Frame, Running, Looping, Pending, Sending, Performing, Evaluating, State, Unbegun, Going, Pends, Ended, Stuck}
+use Rattle.ns_moves.specs.Steps.{PlacedInstr}
 use Rattle.ns_audit.specs.Audit.{sent_by}
 
 -- a send of a body

@@ -18,16 +18,16 @@ use Rattle.ns_world.specs.declared.value.Value.TheVariants.{Ref}
 use Rattle.ns_kdata.specs.Arguments.{items_of}
 use Rattle.ns_facets.specs.declared.board.Board.{Board}
 use Rattle.ns_facets.specs.declared.row.Grants.{Grants}
-use Rattle.ns_actions.specs.declared.site.Site.{Site}
-use Rattle.ns_actions.specs.Control.{Activation, Progress}
-use Rattle.ns_actions.specs.Sends.{Target}
-use Rattle.ns_actions.specs.Sends as actions
-use Rattle.ns_machine_moves.specs.Steps.{PlacedInstr}
-use Rattle.ns_machine_moves.specs.State.{Leaving, Frame, Running, Performing, Phase, State, Going, Pends, Stuck, swapped}
-use Rattle.ns_machine_moves.specs.Arrivals.{arrived}
-use Rattle.ns_machine_moves.specs.Move.{move, sent_on}
-use Rattle.ns_machine_moves.specs.Starts.{new_machine, started, begun}
-use Rattle.ns_machine_moves.specs.Beginning.{MayBegin}
+use Rattle.ns_moves.specs.declared.site.Site.{Site}
+use Rattle.ns_moves.specs.Control.{Activation, Progress}
+use Rattle.ns_moves.specs.Sends.{Target}
+use Rattle.ns_moves.specs.Sends as actions
+use Rattle.ns_moves.specs.Steps.{PlacedInstr}
+use Rattle.ns_moves.specs.State.{Leaving, Frame, Running, Performing, Phase, State, Going, Pends, Stuck, swapped}
+use Rattle.ns_moves.specs.Arrivals.{arrived}
+use Rattle.ns_moves.specs.Move.{move, sent_on}
+use Rattle.ns_moves.specs.Starts.{new_machine, started, begun}
+use Rattle.ns_moves.specs.Beginning.{MayBegin}
 use Rattle.ns_audit.specs.declared.answer.Audit.{Audit}
 use Rattle.ns_audit.specs.declared.answer.Audit.TheVariants.{Yes, Sends, Performs}
 use Rattle.ns_audit.specs.Audit.{audited, is_denied, is_perform, sent_by}

@@ -8,11 +8,11 @@ ghost use Rattle.ns_audit.specs.Stated.{ModulesAreDeclared, OthersAreThere, Perf
 pub fn yes_is_kept()
     ensures { (code : CodeProgram) → YesIsKept code }
 {
-    ns_machine_moves::valid_world::new_machines_are_valid();
-    ns_machine_moves::valid_world::opening_sends_are_valid();
-    ns_machine_moves::valid_world::sends_of_a_host_are_valid();
-    ns_machine_moves::valid_world::swaps_keep_valid();
-    ns_machine_moves::valid_frames::moves_keep_valid();
+    ns_moves::valid_world::new_machines_are_valid();
+    ns_moves::valid_world::opening_sends_are_valid();
+    ns_moves::valid_world::sends_of_a_host_are_valid();
+    ns_moves::valid_world::swaps_keep_valid();
+    ns_moves::valid_frames::moves_keep_valid();
 }
 
 /// Where it answers anything else, the instruction that it names is there.

@@ -17,10 +17,10 @@ use Rattle.ns_world.specs.Heap.{Heap, heap_size, find_cell}
 use Rattle.ns_world.specs.laws.Chains.{found_below, found_in_more}
 use Rattle.ns_world.specs.laws.Changing.{found_new}
 use Rattle.ns_facets.specs.declared.row.Grants.{Grants}
-use Rattle.ns_actions.specs.Control.{Progress}
-use Rattle.ns_actions.specs.Start.{facet_if, facets_of, top_if, tops_of, standing_cells, size_of_cells}
-use Rattle.ns_machine_moves.specs.Valid.{blocks_have_homes, is_no_facet, fitting, array_behind, WorldIsValid}
-use Rattle.ns_machine_moves.specs.ValidFrames.{has_block_home}
+use Rattle.ns_moves.specs.Control.{Progress}
+use Rattle.ns_moves.specs.Start.{facet_if, facets_of, top_if, tops_of, standing_cells, size_of_cells}
+use Rattle.ns_moves.specs.Valid.{blocks_have_homes, is_no_facet, fitting, array_behind, WorldIsValid}
+use Rattle.ns_moves.specs.ValidFrames.{has_block_home}
 use Rattle.ns_frozen.specs.Cells.{is_good_cell, is_standing, stands_first, behind_first, arguments_behind, is_awaited, bad_cell_from}
 use Rattle.ns_frozen.proofs.CellTests.{has_home, cell_told}
 

@@ -8,7 +8,7 @@ use Rattle.ns_code.specs.declared.program.CodeProgram.{CodeProgram}
 use Rattle.ns_code.specs.declared.class.ClassCode.{ClassCode}
 use Rattle.ns_code.specs.declared.body.BodyCode.{BodyCode}
 use Rattle.ns_code.specs.Soundness.{initialiser_kind, clause_kind, instance_side, is_body_of, has_bodies, has_place, has_bad_scope, has_bad_literal, are_classes_sound, has_sound_classes}
-use Rattle.ns_actions.specs.Bodies.{clause_of}
+use Rattle.ns_moves.specs.Bodies.{clause_of}
 
 -- a class that has no bad scope has its bodies
 scope_bodies : (code : CodeProgram) (number : ℕ) (class : ClassCode) → not (has_bad_scope code number class) ≡ true → has_bodies code number class ≡ true

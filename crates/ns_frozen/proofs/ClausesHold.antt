@@ -15,10 +15,10 @@ use Rattle.ns_world.specs.Heap.{Heap}
 use Rattle.ns_world.specs.Layout.{declaration_of}
 use Rattle.ns_world.specs.Lawful.{FitsBody, IsLawful}
 use Rattle.ns_find.specs.Belonging.{HasNested}
-use Rattle.ns_actions.specs.Bodies.{clause_of, no_home}
-use Rattle.ns_actions.specs.Control.{Progress, FromClause}
-use Rattle.ns_machine_moves.specs.State.{Loud}
-use Rattle.ns_machine_moves.specs.ValidFrames.{Awaited, FrameIsValid}
+use Rattle.ns_moves.specs.Bodies.{clause_of, no_home}
+use Rattle.ns_moves.specs.Control.{Progress, FromClause}
+use Rattle.ns_moves.specs.State.{Loud}
+use Rattle.ns_moves.specs.ValidFrames.{Awaited, FrameIsValid}
 use Rattle.ns_frozen.specs.declared.frame.FrameKind.TheVariants as kinds
 use Rattle.ns_frozen.specs.declared.frame.FrozenFrame.{FrozenFrame}
 use Rattle.ns_frozen.specs.Thawing.{is_super_at, frame_thawed}

@@ -7,9 +7,9 @@ use Rattle.ns_code.specs.declared.instruction.Instr.TheVariants as instr
 use Rattle.ns_code.specs.Sample.{sel, method_of, class_of, body_of}
 use Rattle.ns_world.specs.declared.value.Value.TheVariants.{Ref}
 use Rattle.ns_facets.specs.declared.row.Grants.{Grants}
-use Rattle.ns_machine_moves.specs.Move.{moves}
-use Rattle.ns_machine_moves.specs.Starts.{new_machine, started}
-use Rattle.ns_machine_moves.specs.State.{State}
+use Rattle.ns_moves.specs.Move.{moves}
+use Rattle.ns_moves.specs.Starts.{new_machine, started}
+use Rattle.ns_moves.specs.State.{State}
 use Rattle.ns_frozen.specs.declared.fault.RestoreFault.TheVariants.{BadLimits, BadCell, BadFrame, BadRest}
 use Rattle.ns_frozen.specs.declared.frame.FrameKind.TheVariants as kinds
 use Rattle.ns_frozen.specs.declared.frame.FrozenFrame.{FrozenFrame}

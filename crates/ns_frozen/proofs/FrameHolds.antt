@@ -8,7 +8,7 @@ use Rattle.ns_code.specs.declared.program.CodeProgram.{CodeProgram}
 use Rattle.ns_code.specs.declared.body.BodyCode.{BodyCode}
 use Rattle.ns_code.specs.declared.instruction.Instr.{Instr}
 use Rattle.ns_code.specs.Table.{takes}
-use Rattle.ns_machine_moves.specs.ValidFrames.{Awaited, Nothing, SendValue, BlockValue, PartEnd, is_send, is_super_part, next_number, height_of, WaitsBehind, Stands}
+use Rattle.ns_moves.specs.ValidFrames.{Awaited, Nothing, SendValue, BlockValue, PartEnd, is_send, is_super_part, next_number, height_of, WaitsBehind, Stands}
 use Rattle.ns_frozen.specs.declared.frame.FrameKind.TheVariants as kinds
 use Rattle.ns_frozen.specs.Thawing.{is_super_at, rest_thawed}
 use Rattle.ns_frozen.specs.Frames.{Above, Free, Waiting, Under, is_under_initialiser, is_under_block, waits_under, waits_at, stands_at}

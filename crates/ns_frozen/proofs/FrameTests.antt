@@ -24,14 +24,14 @@ use Rattle.ns_world.specs.Layout.{declaration_of}
 use Rattle.ns_kdata.specs.Rows.{same_value}
 use Rattle.ns_world.specs.declared.kernel_parts.KMethod.{KMethod}
 use Rattle.ns_kcode.specs.declared.state.KState.{KState}
-use Rattle.ns_actions.specs.declared.site.Site.{Site}
-use Rattle.ns_actions.specs.Bodies.{clause_of, no_home}
-use Rattle.ns_actions.specs.Blocks.{has_arguments}
-use Rattle.ns_actions.specs.Control.{Progress, Activation, Exit, FromMethod, FromBody, FromClause}
-use Rattle.ns_actions.specs.Fitting.{belongs_to, counts_fit, kind_of, environment_body, locals_beside}
-use Rattle.ns_machine_moves.specs.Steps.{PlacedInstr}
-use Rattle.ns_machine_moves.specs.State.{Leaving, Loud, Silent, Frame, Running, Looping}
-use Rattle.ns_machine_moves.specs.ValidFrames.{Awaited, Nothing, SendValue, BlockValue, PartEnd, awaited_below, is_send, is_super_part, next_number, height_of, WaitsBehind, Stands, ends_kind, has_home_of, has_block_home, waits_for, RunningIsValid, LoopingIsValid, FrameIsValid}
+use Rattle.ns_moves.specs.declared.site.Site.{Site}
+use Rattle.ns_moves.specs.Bodies.{clause_of, no_home}
+use Rattle.ns_moves.specs.Blocks.{has_arguments}
+use Rattle.ns_moves.specs.Control.{Progress, Activation, Exit, FromMethod, FromBody, FromClause}
+use Rattle.ns_moves.specs.Fitting.{belongs_to, counts_fit, kind_of, environment_body, locals_beside}
+use Rattle.ns_moves.specs.Steps.{PlacedInstr}
+use Rattle.ns_moves.specs.State.{Leaving, Loud, Silent, Frame, Running, Looping}
+use Rattle.ns_moves.specs.ValidFrames.{Awaited, Nothing, SendValue, BlockValue, PartEnd, awaited_below, is_send, is_super_part, next_number, height_of, WaitsBehind, Stands, ends_kind, has_home_of, has_block_home, waits_for, RunningIsValid, LoopingIsValid, FrameIsValid}
 use Rattle.ns_frozen.specs.declared.frame.FrameKind.TheVariants as kinds
 use Rattle.ns_frozen.specs.declared.frame.FrozenFrame.{FrozenFrame}
 use Rattle.ns_frozen.specs.Freezing.{kind_frozen, instr_frozen, frame_frozen}

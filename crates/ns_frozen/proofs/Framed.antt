@@ -20,11 +20,11 @@ use Rattle.ns_world.specs.Seek.{is_nil}
 use Rattle.ns_kdata.specs.Rows.{same_value, same_kernel_class}
 use Rattle.ns_world.specs.declared.kernel_parts.KMethod.{KMethod}
 use Rattle.ns_kcode.specs.declared.state.KState.{KState}
-use Rattle.ns_actions.specs.Bodies.{no_home}
-use Rattle.ns_actions.specs.Control.{FromMethod, FromBody, FromClause}
-use Rattle.ns_actions.specs.Fitting.{kind_of}
-use Rattle.ns_machine_moves.specs.Steps.{placed, steps_of}
-use Rattle.ns_machine_moves.specs.State.{Leaving, Loud, Frame, Looping}
+use Rattle.ns_moves.specs.Bodies.{no_home}
+use Rattle.ns_moves.specs.Control.{FromMethod, FromBody, FromClause}
+use Rattle.ns_moves.specs.Fitting.{kind_of}
+use Rattle.ns_moves.specs.Steps.{placed, steps_of}
+use Rattle.ns_moves.specs.State.{Leaving, Loud, Frame, Looping}
 use Rattle.ns_frozen.specs.declared.frame.FrameKind.{FrameKind}
 use Rattle.ns_frozen.specs.declared.frame.FrameKind.TheVariants as kinds
 use Rattle.ns_frozen.specs.declared.frame.FrozenFrame.{FrozenFrame}

@@ -8,10 +8,10 @@ use Rattle.ns_code.specs.declared.body.BodyCode.{BodyCode}
 use Rattle.ns_code.specs.Soundness.{method_kind, block_kind, initialiser_kind, clause_kind}
 use Rattle.ns_world.specs.Heap.{Heap}
 use Rattle.ns_world.specs.Lawful.{IsLawful}
-use Rattle.ns_actions.specs.Control.{Progress}
-use Rattle.ns_actions.specs.Fitting.{kind_of}
-use Rattle.ns_machine_moves.specs.State.{Frame}
-use Rattle.ns_machine_moves.specs.ValidFrames.{Awaited, Nothing, SendValue, BlockValue, PartEnd, awaited_below, FrameIsValid, FramesAreValid}
+use Rattle.ns_moves.specs.Control.{Progress}
+use Rattle.ns_moves.specs.Fitting.{kind_of}
+use Rattle.ns_moves.specs.State.{Frame}
+use Rattle.ns_moves.specs.ValidFrames.{Awaited, Nothing, SendValue, BlockValue, PartEnd, awaited_below, FrameIsValid, FramesAreValid}
 use Rattle.ns_frozen.specs.declared.frame.FrameKind.{FrameKind}
 use Rattle.ns_frozen.specs.declared.frame.FrameKind.TheVariants as kinds
 use Rattle.ns_frozen.specs.declared.frame.FrozenFrame.{FrozenFrame}

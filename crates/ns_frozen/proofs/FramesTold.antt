@@ -6,11 +6,11 @@ use Rattle.std.specs.Prelude.{nat_lt, ◌==◌}
 use Rattle.ns_code.specs.declared.program.CodeProgram.{CodeProgram}
 use Rattle.ns_world.specs.Heap.{Heap}
 use Rattle.ns_world.specs.Lawful.{IsLawful}
-use Rattle.ns_actions.specs.Control.{Progress, FromMethod, FromBody, FromClause}
+use Rattle.ns_moves.specs.Control.{Progress, FromMethod, FromBody, FromClause}
 use Rattle.ns_code.specs.Soundness.{block_kind}
-use Rattle.ns_actions.specs.Fitting.{kind_of}
-use Rattle.ns_machine_moves.specs.State.{Frame, Running, Looping, Loud, Silent}
-use Rattle.ns_machine_moves.specs.ValidFrames.{Awaited, awaited_below, homes_fall, FramesAreValid}
+use Rattle.ns_moves.specs.Fitting.{kind_of}
+use Rattle.ns_moves.specs.State.{Frame, Running, Looping, Loud, Silent}
+use Rattle.ns_moves.specs.ValidFrames.{Awaited, awaited_below, homes_fall, FramesAreValid}
 use Rattle.ns_frozen.specs.declared.frame.FrameKind.TheVariants as kinds
 use Rattle.ns_frozen.specs.declared.frame.FrozenFrame.{FrozenFrame}
 use Rattle.ns_frozen.specs.Freezing.{frame_frozen, frames_down, frames_frozen}

@@ -14,9 +14,9 @@ use Rattle.ns_world.specs.Layout.{layout_above}
 use Rattle.ns_world.specs.laws.Chains.{found_below, found_in_more, chain_in_more}
 use Rattle.ns_world.specs.laws.Changing.{found_new}
 use Rattle.ns_world.specs.laws.Classes.{IsInOrder, chain_starts, same_after_making, base_stays}
-use Rattle.ns_actions.specs.Start.{size_of_cells}
-use Rattle.ns_machine_moves.specs.Valid.{blocks_have_homes}
-use Rattle.ns_machine_moves.specs.ValidFrames.{has_block_home}
+use Rattle.ns_moves.specs.Start.{size_of_cells}
+use Rattle.ns_moves.specs.Valid.{blocks_have_homes}
+use Rattle.ns_moves.specs.ValidFrames.{has_block_home}
 use Rattle.ns_frozen.specs.declared.cell.CellData.{CellData}
 use Rattle.ns_frozen.specs.declared.cell.CellData.TheVariants as cell
 use Rattle.ns_frozen.specs.Thawing.{cell_thawed, cells_onto, heap_thawed}

@@ -4,9 +4,9 @@ use Rattle.std.proofs.lemmas.Bool.{and_parts, and_from, ltb-true, lt-ltb, leb-tr
 use Rattle.std.specs.Prelude.{nat_lt, nat_le}
 use Rattle.ns_code.specs.declared.program.CodeProgram.{CodeProgram}
 use Rattle.ns_world.specs.Heap.{Heap}
-use Rattle.ns_actions.specs.Control.{FromMethod, FromBody, FromClause}
-use Rattle.ns_machine_moves.specs.State.{Frame, Running, Looping, Loud, Silent}
-use Rattle.ns_machine_moves.specs.ValidFrames.{homes_fall}
+use Rattle.ns_moves.specs.Control.{FromMethod, FromBody, FromClause}
+use Rattle.ns_moves.specs.State.{Frame, Running, Looping, Loud, Silent}
+use Rattle.ns_moves.specs.ValidFrames.{homes_fall}
 use Rattle.ns_frozen.specs.declared.frame.FrameKind.{FrameKind}
 use Rattle.ns_frozen.specs.declared.frame.FrameKind.TheVariants as kinds
 use Rattle.ns_frozen.specs.declared.frame.FrozenFrame.{FrozenFrame}

@@ -6,10 +6,10 @@ use Rattle.ns_code.specs.declared.program.CodeProgram.{CodeProgram}
 use Rattle.ns_code.specs.Soundness.{method_kind, block_kind, initialiser_kind}
 use Rattle.ns_world.specs.Heap.{Heap}
 use Rattle.ns_world.specs.Lawful.{IsLawful}
-use Rattle.ns_actions.specs.Bodies.{no_home}
-use Rattle.ns_actions.specs.Control.{Progress, FromMethod, FromBody}
-use Rattle.ns_machine_moves.specs.State.{Loud, Silent}
-use Rattle.ns_machine_moves.specs.ValidFrames.{Awaited, FrameIsValid}
+use Rattle.ns_moves.specs.Bodies.{no_home}
+use Rattle.ns_moves.specs.Control.{Progress, FromMethod, FromBody}
+use Rattle.ns_moves.specs.State.{Loud, Silent}
+use Rattle.ns_moves.specs.ValidFrames.{Awaited, FrameIsValid}
 use Rattle.ns_frozen.specs.declared.frame.FrameKind.{FrameKind}
 use Rattle.ns_frozen.specs.declared.frame.FrameKind.TheVariants as kinds
 use Rattle.ns_frozen.specs.declared.frame.FrozenFrame.{FrozenFrame}

@@ -9,9 +9,9 @@ use Rattle.ns_world.specs.Heap.{Heap}
 use Rattle.ns_world.specs.Lawful.{IsLiveValue}
 use Rattle.ns_world.specs.declared.kernel_parts.KMethod.{KMethod}
 use Rattle.ns_kcode.specs.declared.state.KState.{KState}
-use Rattle.ns_actions.specs.Blocks.{has_arguments}
-use Rattle.ns_actions.specs.Fitting.{belongs_to, counts_fit}
-use Rattle.ns_machine_moves.specs.ValidFrames.{Awaited, Nothing, SendValue, BlockValue, PartEnd, waits_for, LoopingIsValid}
+use Rattle.ns_moves.specs.Blocks.{has_arguments}
+use Rattle.ns_moves.specs.Fitting.{belongs_to, counts_fit}
+use Rattle.ns_moves.specs.ValidFrames.{Awaited, Nothing, SendValue, BlockValue, PartEnd, waits_for, LoopingIsValid}
 use Rattle.ns_frozen.specs.declared.frame.FrameKind.TheVariants as kinds
 use Rattle.ns_frozen.specs.declared.frame.FrozenFrame.{FrozenFrame}
 use Rattle.ns_frozen.specs.Live.{is_live}

@@ -12,9 +12,9 @@ use Rattle.ns_world.specs.Heap.{find_cell}
 use Rattle.ns_world.specs.Lawful.{IsLiveValue, IsLawful}
 use Rattle.ns_world.specs.World.{World}
 use Rattle.ns_kdata.specs.Arguments.{items_of, is_array, array_items}
-use Rattle.ns_actions.specs.Blocks.{is_block}
-use Rattle.ns_actions.specs.Control.{Progress}
-use Rattle.ns_machine_moves.specs.Valid.{PendingIsValid, EndingIsValid}
+use Rattle.ns_moves.specs.Blocks.{is_block}
+use Rattle.ns_moves.specs.Control.{Progress}
+use Rattle.ns_moves.specs.Valid.{PendingIsValid, EndingIsValid}
 use Rattle.std.specs.Prelude.{All}
 use Rattle.std.proofs.lemmas.List.Elements.{All-nil}
 use Rattle.ns_frozen.specs.declared.frame.FrozenFrame.{FrozenFrame}

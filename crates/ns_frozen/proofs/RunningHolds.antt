@@ -14,11 +14,11 @@ use Rattle.ns_world.specs.Cell.{Cell, ObjectCell, ClassCell, BlockCell, Environm
 use Rattle.ns_world.specs.Heap.{Heap, find_cell, is_class}
 use Rattle.ns_world.specs.Starts.{is_receiver_cell}
 use Rattle.ns_world.specs.Lawful.{IsLiveValue, class_of_object, HasHolder, FitsBody, IsLawful}
-use Rattle.ns_actions.specs.Control.{Progress, Activation}
-use Rattle.ns_actions.specs.Fitting.{kind_of, environment_body, locals_beside}
-use Rattle.ns_machine_moves.specs.Steps.{steps_from}
-use Rattle.ns_machine_moves.specs.State.{Leaving}
-use Rattle.ns_machine_moves.specs.ValidFrames.{Awaited, next_number, ends_kind, has_home_of, FitsLeaving, Stands, RunningIsValid}
+use Rattle.ns_moves.specs.Control.{Progress, Activation}
+use Rattle.ns_moves.specs.Fitting.{kind_of, environment_body, locals_beside}
+use Rattle.ns_moves.specs.Steps.{steps_from}
+use Rattle.ns_moves.specs.State.{Leaving}
+use Rattle.ns_moves.specs.ValidFrames.{Awaited, next_number, ends_kind, has_home_of, FitsLeaving, Stands, RunningIsValid}
 use Rattle.ns_frozen.specs.declared.frame.FrozenFrame.{FrozenFrame}
 use Rattle.ns_frozen.specs.Thawing.{is_super_at, rest_thawed}
 use Rattle.ns_frozen.specs.Live.{are_live, fits_body, fits_environment}

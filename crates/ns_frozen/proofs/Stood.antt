@@ -10,11 +10,11 @@ use Rattle.ns_code.specs.declared.instruction.Instr.TheVariants as instr
 use Rattle.ns_code.specs.Soundness.{block_kind}
 use Rattle.ns_code.specs.Table.{takes}
 use Rattle.ns_world.specs.declared.value.Value.{Value}
-use Rattle.ns_actions.specs.Control.{Progress, Activation, FromMethod, FromBody, FromClause}
-use Rattle.ns_actions.specs.Fitting.{kind_of}
-use Rattle.ns_machine_moves.specs.Steps.{PlacedInstr, steps_from}
-use Rattle.ns_machine_moves.specs.State.{Leaving, Loud, Silent, Frame, Running, Looping}
-use Rattle.ns_machine_moves.specs.ValidFrames.{Awaited, Nothing, SendValue, BlockValue, PartEnd, awaited_below, is_send, is_super_part, next_number, height_of, WaitsBehind, Stands, ends_kind, RunningIsValid, FrameIsValid, FramesAreValid}
+use Rattle.ns_moves.specs.Control.{Progress, Activation, FromMethod, FromBody, FromClause}
+use Rattle.ns_moves.specs.Fitting.{kind_of}
+use Rattle.ns_moves.specs.Steps.{PlacedInstr, steps_from}
+use Rattle.ns_moves.specs.State.{Leaving, Loud, Silent, Frame, Running, Looping}
+use Rattle.ns_moves.specs.ValidFrames.{Awaited, Nothing, SendValue, BlockValue, PartEnd, awaited_below, is_send, is_super_part, next_number, height_of, WaitsBehind, Stands, ends_kind, RunningIsValid, FrameIsValid, FramesAreValid}
 use Rattle.ns_frozen.specs.declared.frame.FrameKind.TheVariants as kinds
 use Rattle.ns_frozen.specs.declared.frame.FrozenFrame.{FrozenFrame}
 use Rattle.ns_frozen.specs.Freezing.{kind_frozen, instr_frozen, frame_frozen, frames_down, frames_frozen}

@@ -25,8 +25,8 @@ use Rattle.ns_world.specs.Starts.{is_receiver_cell}
 use Rattle.ns_world.specs.Lawful.{IsLiveValue, class_of_object, HasHolder, FitsBody, environment_in, FitsEnvironment, IsLawful}
 use Rattle.ns_world.specs.laws.Chains.{linked}
 use Rattle.ns_world.specs.laws.Classes.{chain_starts}
-use Rattle.ns_actions.specs.declared.site.Site.{Site}
-use Rattle.ns_actions.specs.Fitting.{FitsSite, names_class}
+use Rattle.ns_moves.specs.declared.site.Site.{Site}
+use Rattle.ns_moves.specs.Fitting.{FitsSite, names_class}
 use Rattle.ns_frozen.specs.Live.{is_live, are_live, is_link, are_links, has_chain, is_in_chain, is_object_of, has_holder, is_class_of, declares, fits_body, fits_environment}
 use Rattle.ns_frozen.specs.Frames.{is_site}
 

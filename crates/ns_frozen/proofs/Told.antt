@@ -8,11 +8,11 @@ use Rattle.ns_world.specs.declared.ending.LimitKind.TheVariants.{Steps, Cells, D
 use Rattle.ns_world.specs.Heap.{Heap}
 use Rattle.ns_world.specs.Lawful.{IsLawful}
 use Rattle.ns_facets.specs.declared.row.Grants.{Grants}
-use Rattle.ns_actions.specs.Control.{Progress}
-use Rattle.ns_machine_moves.specs.State as run
-use Rattle.ns_machine_moves.specs.State.{Frame, Sending, Performing, Evaluating, Phase, Start, First, Second, Hosted, State, Unbegun, Going, Pends, Ended, Stuck}
-use Rattle.ns_machine_moves.specs.Valid.{HasArgumentCells, HasArgumentsIn, EndIsValid, GoesOn, Valid}
-use Rattle.ns_machine_moves.specs.ValidFrames.{Nothing, awaited_for, FramesAreValid}
+use Rattle.ns_moves.specs.Control.{Progress}
+use Rattle.ns_moves.specs.State as run
+use Rattle.ns_moves.specs.State.{Frame, Sending, Performing, Evaluating, Phase, Start, First, Second, Hosted, State, Unbegun, Going, Pends, Ended, Stuck}
+use Rattle.ns_moves.specs.Valid.{HasArgumentCells, HasArgumentsIn, EndIsValid, GoesOn, Valid}
+use Rattle.ns_moves.specs.ValidFrames.{Nothing, awaited_for, FramesAreValid}
 use Rattle.ns_frozen.specs.declared.pending.Pending.{Pending}
 use Rattle.ns_frozen.specs.declared.frame.FrozenFrame.{FrozenFrame}
 use Rattle.ns_frozen.specs.declared.frozen.Frozen.{Frozen}

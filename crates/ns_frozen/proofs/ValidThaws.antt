@@ -11,11 +11,11 @@ use Rattle.ns_world.specs.declared.ending.LimitKind.TheVariants.{Steps, Cells, D
 use Rattle.ns_world.specs.Heap.{Heap}
 use Rattle.ns_world.specs.Lawful.{IsLawful}
 use Rattle.ns_facets.specs.declared.row.Grants.{Grants}
-use Rattle.ns_actions.specs.Control.{Progress}
-use Rattle.ns_actions.specs.Start.{standing_cells, size_of_cells}
-use Rattle.ns_machine_moves.specs.State.{Frame, Pends}
-use Rattle.ns_machine_moves.specs.Valid.{fitting, array_behind, WorldIsValid, HasArgumentCells, HasArgumentsIn, PendingIsValid, EndingIsValid, EndIsValid, GoesOn, Valid, has_begun, has_frame}
-use Rattle.ns_machine_moves.specs.ValidFrames.{Nothing, SendValue, BlockValue, awaited_below, awaited_for, FramesAreValid}
+use Rattle.ns_moves.specs.Control.{Progress}
+use Rattle.ns_moves.specs.Start.{standing_cells, size_of_cells}
+use Rattle.ns_moves.specs.State.{Frame, Pends}
+use Rattle.ns_moves.specs.Valid.{fitting, array_behind, WorldIsValid, HasArgumentCells, HasArgumentsIn, PendingIsValid, EndingIsValid, EndIsValid, GoesOn, Valid, has_begun, has_frame}
+use Rattle.ns_moves.specs.ValidFrames.{Nothing, SendValue, BlockValue, awaited_below, awaited_for, FramesAreValid}
 use Rattle.ns_frozen.specs.declared.frame.FrameKind.{FrameKind}
 use Rattle.ns_frozen.specs.declared.frame.FrameKind.TheVariants as kinds
 use Rattle.ns_frozen.specs.declared.frame.FrozenFrame.{FrozenFrame}

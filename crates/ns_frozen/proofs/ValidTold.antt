@@ -19,15 +19,15 @@ use Rattle.ns_world.specs.Heap.{Heap, heap_size}
 use Rattle.ns_world.specs.Lawful.{IsLawful}
 use Rattle.ns_kdata.specs.Arguments.{items_of, is_array}
 use Rattle.ns_facets.specs.declared.row.Grants.{Grants}
-use Rattle.ns_actions.specs.Blocks.{is_block}
-use Rattle.ns_actions.specs.Control.{Progress, FromMethod, FromBody, FromClause}
-use Rattle.ns_actions.specs.Lawful.{FitsSelector}
-use Rattle.ns_actions.specs.Fitting.{kind_of}
-use Rattle.ns_actions.specs.Start.{standing_cells, size_of_cells}
-use Rattle.ns_machine_moves.specs.State as run
-use Rattle.ns_machine_moves.specs.State.{Frame, Running, Looping, Loud, Silent, Sending, Performing, Evaluating, Phase, Start, First, Second, Hosted, State, Unbegun, Going, Pends, Ended, Stuck}
-use Rattle.ns_machine_moves.specs.Valid.{WorldIsValid, HasArgumentCells, HasArgumentsIn, PendingIsValid, EndIsValid, GoesOn, Valid, fitting, has_begun, has_frame}
-use Rattle.ns_machine_moves.specs.ValidFrames.{Nothing, SendValue, BlockValue, awaited_for, homes_fall, FramesAreValid}
+use Rattle.ns_moves.specs.Blocks.{is_block}
+use Rattle.ns_moves.specs.Control.{Progress, FromMethod, FromBody, FromClause}
+use Rattle.ns_moves.specs.Lawful.{FitsSelector}
+use Rattle.ns_moves.specs.Fitting.{kind_of}
+use Rattle.ns_moves.specs.Start.{standing_cells, size_of_cells}
+use Rattle.ns_moves.specs.State as run
+use Rattle.ns_moves.specs.State.{Frame, Running, Looping, Loud, Silent, Sending, Performing, Evaluating, Phase, Start, First, Second, Hosted, State, Unbegun, Going, Pends, Ended, Stuck}
+use Rattle.ns_moves.specs.Valid.{WorldIsValid, HasArgumentCells, HasArgumentsIn, PendingIsValid, EndIsValid, GoesOn, Valid, fitting, has_begun, has_frame}
+use Rattle.ns_moves.specs.ValidFrames.{Nothing, SendValue, BlockValue, awaited_for, homes_fall, FramesAreValid}
 use Rattle.ns_frozen.specs.declared.frame.FrameKind.TheVariants as kinds
 use Rattle.ns_frozen.specs.declared.frame.FrozenFrame.{FrozenFrame}
 use Rattle.ns_frozen.specs.declared.pending.Pending.{Pending}

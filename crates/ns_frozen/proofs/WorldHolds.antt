@@ -21,8 +21,8 @@ use Rattle.ns_world.specs.Seek.{is_nil, facet_number}
 use Rattle.ns_world.specs.laws.Above.{chain_past}
 use Rattle.ns_world.specs.laws.Classes.{IsInOrder}
 use Rattle.ns_facets.specs.declared.row.Grants.{Grants}
-use Rattle.ns_actions.specs.Start.{facet_if, facets_of, top_if, tops_of, standing_cells, size_of_cells}
-use Rattle.ns_machine_moves.specs.Valid.{is_no_facet, fitting, WorldIsValid}
+use Rattle.ns_moves.specs.Start.{facet_if, facets_of, top_if, tops_of, standing_cells, size_of_cells}
+use Rattle.ns_moves.specs.Valid.{is_no_facet, fitting, WorldIsValid}
 use Rattle.ns_frozen.specs.declared.frozen.Frozen.{Frozen}
 use Rattle.ns_frozen.specs.Thawing.{heap_thawed, world_thawed, progress_thawed}
 use Rattle.ns_frozen.specs.Live.{is_object_class}

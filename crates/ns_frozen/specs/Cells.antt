@@ -20,9 +20,9 @@ use Rattle.ns_world.specs.Layout.{declaration_of, layout_of, entry_word}
 use Rattle.ns_world.specs.Lawful.{is_environment}
 use Rattle.ns_world.specs.Seek.{is_nil, is_facet}
 use Rattle.ns_kdata.specs.Arguments.{items_of, is_array}
-use Rattle.ns_actions.specs.Start.{standing_cells}
-use Rattle.ns_machine_moves.specs.Valid.{fitting, is_no_facet}
-use Rattle.ns_machine_moves.specs.ValidFrames.{has_block_home}
+use Rattle.ns_moves.specs.Start.{standing_cells}
+use Rattle.ns_moves.specs.Valid.{fitting, is_no_facet}
+use Rattle.ns_moves.specs.ValidFrames.{has_block_home}
 use Rattle.ns_frozen.specs.Live.{is_live, are_live, is_ref, is_object_class, has_chain, has_holder, declares, fits_body, fits_environment}
 use Rattle.ns_frozen.specs.declared.frozen.Frozen.{Frozen}
 

@@ -17,11 +17,11 @@ use Rattle.ns_world.specs.Seek.{is_nil}
 use Rattle.ns_world.specs.declared.kernel_parts.KMethod.{KMethod}
 use Rattle.ns_kcode.specs.declared.state.KState.{KState}
 use Rattle.ns_kdata.specs.Rows.{same_value}
-use Rattle.ns_actions.specs.declared.site.Site.{Site}
-use Rattle.ns_actions.specs.Bodies.{clause_of, no_home}
-use Rattle.ns_actions.specs.Blocks.{has_arguments}
-use Rattle.ns_actions.specs.Fitting.{belongs_to, counts_fit, environment_body, locals_beside, names_class}
-use Rattle.ns_machine_moves.specs.ValidFrames.{height_of, is_send, is_super_part, has_block_home}
+use Rattle.ns_moves.specs.declared.site.Site.{Site}
+use Rattle.ns_moves.specs.Bodies.{clause_of, no_home}
+use Rattle.ns_moves.specs.Blocks.{has_arguments}
+use Rattle.ns_moves.specs.Fitting.{belongs_to, counts_fit, environment_body, locals_beside, names_class}
+use Rattle.ns_moves.specs.ValidFrames.{height_of, is_send, is_super_part, has_block_home}
 use Rattle.ns_frozen.specs.declared.frame.FrameKind.{FrameKind}
 use Rattle.ns_frozen.specs.declared.frame.FrameKind.TheVariants as kinds
 use Rattle.ns_frozen.specs.declared.frame.FrozenFrame.{FrozenFrame}

@@ -8,13 +8,13 @@ use Rattle.ns_world.specs.Cell.{Cell, ObjectCell, ClassCell, BlockCell, Environm
 use Rattle.ns_world.specs.Heap.{Heap, no_class}
 use Rattle.ns_world.specs.World.{counters_of}
 use Rattle.ns_facets.specs.declared.row.Grants.{Grants}
-use Rattle.ns_actions.specs.Control.{Progress, FromMethod, FromBody, FromClause}
-use Rattle.ns_actions.specs.Bodies.{no_home}
-use Rattle.ns_actions.specs.Fitting.{kind_of}
-use Rattle.ns_machine_moves.specs.Steps.{PlacedInstr}
-use Rattle.ns_machine_moves.specs.State as run
-use Rattle.ns_machine_moves.specs.State.{Leaving, Loud, Silent, Frame, Running, Looping, Sending, Performing, Evaluating, Phase, Start, First, Second, Hosted, State, Unbegun, Going, Pends, Ended, Stuck}
-use Rattle.ns_machine_moves.specs.ValidFrames.{next_number}
+use Rattle.ns_moves.specs.Control.{Progress, FromMethod, FromBody, FromClause}
+use Rattle.ns_moves.specs.Bodies.{no_home}
+use Rattle.ns_moves.specs.Fitting.{kind_of}
+use Rattle.ns_moves.specs.Steps.{PlacedInstr}
+use Rattle.ns_moves.specs.State as run
+use Rattle.ns_moves.specs.State.{Leaving, Loud, Silent, Frame, Running, Looping, Sending, Performing, Evaluating, Phase, Start, First, Second, Hosted, State, Unbegun, Going, Pends, Ended, Stuck}
+use Rattle.ns_moves.specs.ValidFrames.{next_number}
 use Rattle.ns_frozen.specs.declared.cell.CellData.{CellData}
 use Rattle.ns_frozen.specs.declared.cell.CellData.TheVariants as cell
 use Rattle.ns_frozen.specs.declared.frame.FrameKind.{FrameKind}

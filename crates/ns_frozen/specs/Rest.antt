@@ -8,7 +8,7 @@ use Rattle.ns_world.specs.declared.value.Value.TheVariants.{Ref}
 use Rattle.ns_world.specs.declared.ending.Ending.{Ending}
 use Rattle.ns_world.specs.declared.ending.Ending.TheVariants.{Done, Error, Limit}
 use Rattle.ns_world.specs.Heap.{Heap, heap_size}
-use Rattle.ns_actions.specs.Blocks.{is_block}
+use Rattle.ns_moves.specs.Blocks.{is_block}
 use Rattle.ns_frozen.specs.declared.frame.FrameKind.{FrameKind}
 use Rattle.ns_frozen.specs.declared.frame.FrameKind.TheVariants as kinds
 use Rattle.ns_frozen.specs.declared.frame.FrozenFrame.{FrozenFrame}

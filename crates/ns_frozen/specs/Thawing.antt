@@ -8,14 +8,14 @@ use Rattle.ns_world.specs.Cell.{Cell, ObjectCell, ClassCell, BlockCell, Environm
 use Rattle.ns_world.specs.Heap.{Heap}
 use Rattle.ns_world.specs.Layout.{entries_above}
 use Rattle.ns_world.specs.World.{World}
-use Rattle.ns_actions.specs.Control.{Progress, FromMethod, FromBody, FromClause}
-use Rattle.ns_actions.specs.Start.{standing_cells, size_of_cells}
+use Rattle.ns_moves.specs.Control.{Progress, FromMethod, FromBody, FromClause}
+use Rattle.ns_moves.specs.Start.{standing_cells, size_of_cells}
 use Rattle.ns_facets.specs.declared.row.Grants.{Grants}
-use Rattle.ns_machine_moves.specs.Steps.{PlacedInstr, steps_from}
-use Rattle.ns_machine_moves.specs.State as run
-use Rattle.ns_machine_moves.specs.State.{Leaving, Loud, Silent, Frame, Running, Looping, Sending, Performing, Evaluating, Phase, Start, First, Second, Hosted, State, Unbegun, Going, Pends, Ended}
-use Rattle.ns_machine_moves.specs.Valid.{array_behind}
-use Rattle.ns_machine_moves.specs.ValidFrames.{is_super_part}
+use Rattle.ns_moves.specs.Steps.{PlacedInstr, steps_from}
+use Rattle.ns_moves.specs.State as run
+use Rattle.ns_moves.specs.State.{Leaving, Loud, Silent, Frame, Running, Looping, Sending, Performing, Evaluating, Phase, Start, First, Second, Hosted, State, Unbegun, Going, Pends, Ended}
+use Rattle.ns_moves.specs.Valid.{array_behind}
+use Rattle.ns_moves.specs.ValidFrames.{is_super_part}
 use Rattle.ns_frozen.specs.declared.cell.CellData.{CellData}
 use Rattle.ns_frozen.specs.declared.cell.CellData.TheVariants as cell
 use Rattle.ns_frozen.specs.declared.frame.FrameKind.{FrameKind}

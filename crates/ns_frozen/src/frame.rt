@@ -1,8 +1,8 @@
 //! Frames as plain data.
 
-use ns_actions::site::Site;
 use ns_base::items::Items;
 use ns_kcode::state::KState;
+use ns_moves::site::Site;
 use ns_world::kernel_parts::KMethod;
 use ns_world::value::Value;
 

@@ -2,9 +2,9 @@
 
 ghost use Rattle.std.specs.Prelude.{◌≡◌, ℕ, ◌≤◌, List, length};
 ghost use Rattle.ns_code.specs.declared.program.CodeProgram.{CodeProgram};
-ghost use Rattle.ns_machine_moves.specs.State as run;
-ghost use Rattle.ns_machine_moves.specs.Steps.{steps_of, steps_from};
-ghost use Rattle.ns_machine_moves.specs.ValidFrames.{next_number};
+ghost use Rattle.ns_moves.specs.State as run;
+ghost use Rattle.ns_moves.specs.Steps.{steps_of, steps_from};
+ghost use Rattle.ns_moves.specs.ValidFrames.{next_number};
 ghost use Rattle.ns_frozen.specs.declared.cell.CellData.{CellData};
 ghost use Rattle.ns_frozen.specs.declared.pending.Pending.{Pending};
 ghost use Rattle.ns_frozen.specs.Laws.{CellsThawBack, FramesFreezeBack, FreezesBack, ThawsBack, ThawsAlike, ValidFreezes, ValidThaws};

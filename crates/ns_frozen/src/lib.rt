@@ -1,6 +1,6 @@
 //! The state of a run as plain data, both ways, and which data stands for a state in which a run can be.
 //! `specs/Fault.antt` says the first part of such data that can't be (`fault_of`).
-//! Stands between ns_machine_moves and ns_snapshot.
+//! Stands between ns_moves and ns_snapshot.
 #![tactic(auto)]
 
 pub mod cell;

@@ -1,8 +1,8 @@
 //! What waits to be done next, as plain data.
 
-use ns_actions::site::Site;
 use ns_base::items::Items;
 use ns_base::selector::Sel;
+use ns_moves::site::Site;
 use ns_world::value::Value;
 
 /// A send that opens the run or that a host made; a send with the elements of the array of that number; or the

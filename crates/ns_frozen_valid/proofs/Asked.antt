@@ -9,7 +9,7 @@ use Rattle.ns_world.specs.Starts.{declaration_in}
 use Rattle.ns_world.specs.Starts as starts
 use Rattle.ns_world.specs.Lawful as lawful
 use Rattle.ns_kdata.specs.Arguments.{array_items, is_array_shape}
-use Rattle.ns_actions.specs.Blocks.{is_block_shape}
+use Rattle.ns_moves.specs.Blocks.{is_block_shape}
 use Rattle.ns_frozen.specs.declared.cell.CellData.{CellData}
 use Rattle.ns_frozen.specs.Freezing.{cell_frozen}
 use Rattle.ns_code.specs.declared.program.CodeProgram.{CodeProgram}

@@ -12,7 +12,7 @@ use Rattle.ns_code.specs.declared.instruction.Instr.TheVariants as instr
 use Rattle.ns_verify.specs.Heights.{Pass, begin, next, height_at, heights_from, heights}
 use Rattle.ns_verify.specs.Places.{height_before, HeightsAgree}
 use Rattle.ns_code.specs.Fits.{Fits, BodyFits}
-use Rattle.ns_machine_moves.specs.ValidFrames.{height_of}
+use Rattle.ns_moves.specs.ValidFrames.{height_of}
 use Rattle.ns_frozen.specs.Frames.{Above, Free, Waiting, Under, is_under_initialiser, waits_under, stands_at}
 use Rattle.ns_frozen_valid.specs.declared.stand.Stand.{Stand}
 use Rattle.ns_frozen_valid.specs.declared.bodies.Bodies.{Bodies}

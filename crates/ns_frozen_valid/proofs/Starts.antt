@@ -2,7 +2,7 @@
 use Rattle.std.proofs.Common.{◌≡◌, ℕ, ◌+◌, List, ◌∷◌, ◌++◌, ap, ◌∙◌, append_assoc}
 use Rattle.ns_code.specs.declared.class.ClassCode.{ClassCode}
 use Rattle.ns_world.specs.Cell.{Cell}
-use Rattle.ns_actions.specs.Start.{top_if, tops_of}
+use Rattle.ns_moves.specs.Start.{top_if, tops_of}
 
 -- one more top-level class, where there is one
 pub tops_on : (decl : ℕ) (class : ClassCode) (rest : List ClassCode) (before after whole : List Cell) → after ≡ before ++ top_if class.outer decl

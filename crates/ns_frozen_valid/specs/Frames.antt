@@ -7,8 +7,8 @@ use Rattle.ns_world.specs.Heap.{Heap}
 use Rattle.ns_world.specs.Layout.{declaration_of}
 use Rattle.ns_world.specs.declared.kernel_parts.KMethod.{KMethod}
 use Rattle.ns_kcode.specs.declared.state.KState.{KState}
-use Rattle.ns_actions.specs.Bodies.{clause_of}
-use Rattle.ns_actions.specs.Fitting.{environment_body, locals_beside}
+use Rattle.ns_moves.specs.Bodies.{clause_of}
+use Rattle.ns_moves.specs.Fitting.{environment_body, locals_beside}
 use Rattle.ns_frozen.specs.declared.frame.FrozenFrame.{FrozenFrame}
 use Rattle.ns_frozen.specs.Live.{are_live, fits_environment}
 use Rattle.ns_frozen.specs.Frames.{Above, is_site, is_state, is_looping, is_under_block, is_number, has_nested}

@@ -7,9 +7,9 @@ use Rattle.ns_world.specs.Heap.{Heap, no_class}
 use Rattle.ns_world.specs.Seek.{is_nil}
 use Rattle.ns_world.specs.declared.kernel_parts.KMethod.{KMethod}
 use Rattle.ns_kcode.specs.declared.state.KState.{KState}
-use Rattle.ns_actions.specs.Bodies.{no_home}
-use Rattle.ns_actions.specs.Blocks.{has_arguments}
-use Rattle.ns_actions.specs.Fitting.{belongs_to, counts_fit}
+use Rattle.ns_moves.specs.Bodies.{no_home}
+use Rattle.ns_moves.specs.Blocks.{has_arguments}
+use Rattle.ns_moves.specs.Fitting.{belongs_to, counts_fit}
 use Rattle.ns_frozen.specs.declared.frame.FrozenFrame.{FrozenFrame}
 use Rattle.ns_frozen.specs.Cells.{is_empty}
 use Rattle.ns_frozen.specs.Live.{is_live}

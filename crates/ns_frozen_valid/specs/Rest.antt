@@ -5,8 +5,8 @@ use Rattle.ns_base.specs.declared.selector.Sel.{Sel}
 use Rattle.ns_code.specs.declared.program.CodeProgram.{CodeProgram}
 use Rattle.ns_world.specs.declared.value.Value.{Value}
 use Rattle.ns_world.specs.Heap.{Heap}
-use Rattle.ns_actions.specs.Blocks.{is_block}
-use Rattle.ns_actions.specs.declared.site.Site.{Site}
+use Rattle.ns_moves.specs.Blocks.{is_block}
+use Rattle.ns_moves.specs.declared.site.Site.{Site}
 use Rattle.ns_frozen.specs.declared.frozen.Frozen.{Frozen}
 use Rattle.ns_frozen.specs.Live.{is_live, are_live}
 use Rattle.ns_frozen.specs.Frames.{is_site}

@@ -5,7 +5,7 @@ ghost use Rattle.ns_code.specs.declared.program.CodeProgram.{CodeProgram};
 ghost use Rattle.ns_code.specs.declared.body.BodyCode.{BodyCode as BodyOf};
 ghost use Rattle.ns_code.specs.Fits.{Fits};
 ghost use Rattle.ns_verify.specs.Verify.{IsSound};
-ghost use Rattle.ns_machine_moves.specs.ValidFrames.{is_in_method, has_block_home};
+ghost use Rattle.ns_moves.specs.ValidFrames.{is_in_method, has_block_home};
 ghost use Rattle.ns_frozen.specs.Frames.{stands_at};
 ghost use Rattle.ns_frozen_valid.specs.Above.{above_shown};
 ghost use Rattle.ns_frozen_valid.specs.Bodies.{AreBodies};

@@ -3,12 +3,12 @@
 ghost use Rattle.std.specs.Prelude.{◌≡◌, ◌≤◌, ◌++◌, map, [], IfOk, OnOk};
 ghost use Rattle.ns_code.specs.declared.program.CodeProgram.{CodeProgram};
 ghost use Rattle.ns_code.specs.Fits.{Fits};
-ghost use Rattle.ns_actions.specs.Start.{facet_if, top_if, facets_of, standing_cells};
+ghost use Rattle.ns_moves.specs.Start.{facet_if, top_if, facets_of, standing_cells};
 ghost use Rattle.ns_world.specs.Cell.{cell_size};
 ghost use Rattle.ns_world.specs.Seek.{facet_number};
 ghost use Rattle.ns_frozen.specs.Cells as spec;
 ghost use Rattle.ns_frozen.specs.Thawing.{cell_thawed};
-ghost use Rattle.ns_machine_moves.specs.Valid.{fitting, is_no_facet};
+ghost use Rattle.ns_moves.specs.Valid.{fitting, is_no_facet};
 ghost use Rattle.ns_frozen_valid.specs.First as own;
 
 use crate::chain::is_object_class;

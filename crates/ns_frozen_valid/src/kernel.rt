@@ -3,8 +3,8 @@
 ghost use Rattle.std.specs.Prelude.{◌≡◌, true};
 ghost use Rattle.std.specs.Option.{option_map_or};
 ghost use Rattle.ns_world.specs.Booleans as booleans;
-ghost use Rattle.ns_actions.specs.Blocks as blocks;
-ghost use Rattle.ns_actions.specs.Fitting as fitting;
+ghost use Rattle.ns_moves.specs.Blocks as blocks;
+ghost use Rattle.ns_moves.specs.Fitting as fitting;
 ghost use Rattle.ns_frozen.specs.Frames as spec;
 ghost use Rattle.ns_frozen.specs.Live as live;
 ghost use Rattle.ns_frozen_valid.specs.Kernel as own;

@@ -9,11 +9,11 @@ ghost use Rattle.ns_frozen_valid.specs.Seen.{IsSeen, heap_of};
 use crate::first::ends_start;
 use crate::numbers::size;
 use crate::seen::Seen;
-use ns_actions::site::Site;
 use ns_base::selector::Sel;
 use ns_frozen::frame::{FrameKind, FrozenFrame};
 use ns_frozen::frozen::Frozen;
 use ns_frozen::pending::Pending;
+use ns_moves::site::Site;
 use ns_world::ending::Ending;
 use ns_world::value::Value;
 

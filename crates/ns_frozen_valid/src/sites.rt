@@ -3,13 +3,13 @@
 ghost use Rattle.std.specs.Prelude.{◌≡◌, nat_lt, length, true};
 ghost use Rattle.std.specs.Option.{option_map_or};
 ghost use Rattle.ns_base.specs.declared.place.Place.{Place as PlaceOf};
-ghost use Rattle.ns_actions.specs.Fitting.{names_class};
+ghost use Rattle.ns_moves.specs.Fitting.{names_class};
 ghost use Rattle.ns_frozen.specs.Frames.{is_site};
 ghost use Rattle.ns_frozen_valid.specs.Seen.{IsSeen};
 
 use crate::seen::Seen;
-use ns_actions::site::Site;
 use ns_base::place::Place;
+use ns_moves::site::Site;
 use ns_world::kernel::ClassName;
 
 impl Seen<'_> {

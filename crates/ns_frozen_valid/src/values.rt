@@ -4,7 +4,7 @@ ghost use Rattle.std.specs.Prelude.{◌≡◌, ◌≤◌, length};
 ghost use Rattle.ns_world.specs.Heap as heap;
 ghost use Rattle.ns_world.specs.Starts as starts;
 ghost use Rattle.ns_kdata.specs.Arguments as arguments;
-ghost use Rattle.ns_actions.specs.Blocks as blocks;
+ghost use Rattle.ns_moves.specs.Blocks as blocks;
 ghost use Rattle.ns_frozen.specs.Live as live;
 ghost use Rattle.ns_frozen.specs.Cells.{is_environment_or_nil, has_elements_for};
 ghost use Rattle.ns_frozen_valid.specs.Seen.{IsSeen, heap_of};

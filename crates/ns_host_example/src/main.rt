@@ -3,7 +3,7 @@
 //! Stands on machine, session and actors, as a program of its own.
 #![tactic(auto)]
 
-ghost use Rattle.ns_machine_moves.specs.State.{world_of};
+ghost use Rattle.ns_moves.specs.State.{world_of};
 ghost use Rattle.ns_machine_report.specs.Ending.{IsLiveEnding};
 
 mod pair;

@@ -14,11 +14,11 @@ use Rattle.ns_facets.specs.declared.board.Board.{Board}
 use Rattle.ns_mirror.specs.declared.row.Mirrored.{Mirrored}
 use Rattle.ns_mirror.specs.Mirror.{Reflected, Reflects, Refuses, GivesMirrored}
 use Rattle.ns_mirror.specs.Leading.{ReflectsOn}
-use Rattle.ns_actions.specs.declared.site.Site.{Site}
-use Rattle.ns_actions.specs.Site.{fault_ending}
-use Rattle.ns_actions.specs.Control.{Progress, gives, halts}
-use Rattle.ns_actions.specs.Shown.{reached_shown}
-use Rattle.ns_actions.specs.Kernel.{outcome_reached, data_reached}
+use Rattle.ns_moves.specs.declared.site.Site.{Site}
+use Rattle.ns_moves.specs.Site.{fault_ending}
+use Rattle.ns_moves.specs.Control.{Progress, gives, halts}
+use Rattle.ns_moves.specs.Shown.{reached_shown}
+use Rattle.ns_moves.specs.Kernel.{outcome_reached, data_reached}
 use Rattle.ns_kernel_rows.specs.Reaching.{progress_of, answered}
 
 -- an outcome that is given is what the action comes to

@@ -8,10 +8,10 @@ use Rattle.ns_kdata.specs.Arguments.{shape_of_value}
 use Rattle.ns_kdata.specs.Rows.{not_understood, message_selector}
 use Rattle.ns_world.specs.declared.kernel_parts.MirrorRow.{MirrorRow}
 use Rattle.ns_mirror.specs.Mirror.{mirror}
-use Rattle.ns_actions.specs.declared.site.Site.{Site}
-use Rattle.ns_actions.specs.Control.{Progress, Control, Now}
-use Rattle.ns_actions.specs.Classes.{mixed}
-use Rattle.ns_actions.specs.Kernel.{message_refused, reflected_reached}
+use Rattle.ns_moves.specs.declared.site.Site.{Site}
+use Rattle.ns_moves.specs.Control.{Progress, Control, Now}
+use Rattle.ns_moves.specs.Classes.{mixed}
+use Rattle.ns_moves.specs.Kernel.{message_refused, reflected_reached}
 
 -- the kernel's `doesNotUnderstand:` of a message
 abbrev pub refused : Value → Site → Progress → Control

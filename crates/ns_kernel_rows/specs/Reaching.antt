@@ -11,12 +11,12 @@ use Rattle.ns_classes.specs.declared.apply.MakeFault.{MakeFault}
 use Rattle.ns_facets.specs.declared.board.Board.{Board}
 use Rattle.ns_mirror.specs.declared.row.Mirrored.{Mirrored}
 use Rattle.ns_mirror.specs.declared.row.Mirrored.TheVariants as mirrored
-use Rattle.ns_actions.specs.declared.site.Site.{Site}
-use Rattle.ns_actions.specs.declared.control.Reached.{Reached}
-use Rattle.ns_actions.specs.declared.control.Reached.TheVariants.{Gives, Fails, Performs}
-use Rattle.ns_actions.specs.Site.{make_fault}
-use Rattle.ns_actions.specs.Control.{Progress, Control}
-use Rattle.ns_actions.specs.Shown.{reached_shown}
+use Rattle.ns_moves.specs.declared.site.Site.{Site}
+use Rattle.ns_moves.specs.declared.control.Reached.{Reached}
+use Rattle.ns_moves.specs.declared.control.Reached.TheVariants.{Gives, Fails, Performs}
+use Rattle.ns_moves.specs.Site.{make_fault}
+use Rattle.ns_moves.specs.Control.{Progress, Control}
+use Rattle.ns_moves.specs.Shown.{reached_shown}
 
 -- what a run has done, by its world, its board and how many method activations it has begun
 abbrev pub progress_of : WorldView → Board → ℕ → Progress

@@ -12,11 +12,11 @@ ghost use Rattle.ns_kernel_rows.specs.Reaching.{ReachesAlone, class_answered};
 ghost use Rattle.ns_kernel_rows.specs.Parts.{applied};
 
 use crate::reached::fails;
-use ns_actions::control::Reached;
-use ns_actions::site::make_fault;
 use ns_classes::apply::{MakeFault, apply};
 use ns_code::program::CodeProgram;
 use ns_kdata::arguments::shape_of_value;
+use ns_moves::control::Reached;
+use ns_moves::site::make_fault;
 use ns_world::cell::NewCell;
 use ns_world::ending::Kind;
 use ns_world::value::Value;

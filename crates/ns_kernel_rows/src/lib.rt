@@ -1,5 +1,5 @@
 //! The kernel's rows as actions of a run: what answers a send that finds one, and where control goes from there.
-//! `crates/ns_actions/specs/Kernel.antt` says what each row comes to (`row_reached`).
+//! `crates/ns_moves/specs/Kernel.antt` says what each row comes to (`row_reached`).
 //! Stands between actions and the sends of the machine.
 #![tactic(auto)]
 

@@ -5,7 +5,7 @@ ghost use Rattle.ns_world.specs.Heap.{Heap};
 ghost use Rattle.ns_kernel_rows.specs.Plain.{IsOfRow};
 ghost use Rattle.ns_kernel_rows.specs.Reaching as spec;
 
-use ns_actions::control::Reached;
+use ns_moves::control::Reached;
 use ns_world::ending::{Fault, Kind};
 use ns_world::value::Value;
 

@@ -13,7 +13,7 @@ use Rattle.ns_code.specs.declared.instruction.Instr.TheVariants as i
 use Rattle.ns_resolved.specs.Program.{Meant, Body, Does, as_method}
 use Rattle.ns_resolved.specs.Tables.{gathered, node_texts, nodes_texts, body_texts, texts_of}
 use Rattle.ns_gen_code.specs.Code.{CodeLine, does, symbol, sends, starts, instr_of, send_instr, places_from, body_lines, bodies_code, code_of}
-use Rattle.ns_machine_moves.specs.Steps.{PlacedInstr, place_in, placed, literal}
+use Rattle.ns_moves.specs.Steps.{PlacedInstr, place_in, placed, literal}
 use Rattle.ns_link.specs.Shown.{shown}
 use Rattle.ns_link.proofs.Sim.{Texts, split}
 use Rattle.ns_link.proofs.RunOk.{Coded}

@@ -34,18 +34,18 @@ use Rattle.ns_kcode.specs.declared.state.KState.{KState}
 use Rattle.ns_kcode.specs.declared.state.KAction.{KAction}
 use Rattle.ns_kcode.specs.declared.state.KAction.TheVariants as action
 use Rattle.ns_kcode.specs.Next.{next}
-use Rattle.ns_actions.specs.declared.site.Site.{Site}
-use Rattle.ns_actions.specs.Site.{error}
-use Rattle.ns_actions.specs.Control.{Progress, in_world, Activation, Exit, FromMethod, FromBody, FromClause, Gives, Halts}
-use Rattle.ns_actions.specs.Control.{Control, Now, Enter, PartControl, Skip, Stop, EnterPart, Waiting, Waits, Finishes, halts, fails, charged, gives}
-use Rattle.ns_actions.specs.Bodies.{parameters_of, has_environment, first_locals, initialiser_of, clause_of, no_home, opened, is_beside, environment_at}
-use Rattle.ns_actions.specs.Bodies.{local_stored}
-use Rattle.ns_actions.specs.Classes.{newly_kept, kept_or, class_over, head, nested, instance, factory_selector, super_selector}
-use Rattle.ns_actions.specs.Classes.{declared_part, object_part, part_of, super_part, slot_filled, body_ended}
-use Rattle.ns_actions.specs.Blocks.{new_cell, block_entered, evaluated, waiting, listed, item_at, acted, method_next}
+use Rattle.ns_moves.specs.declared.site.Site.{Site}
+use Rattle.ns_moves.specs.Site.{error}
+use Rattle.ns_moves.specs.Control.{Progress, in_world, Activation, Exit, FromMethod, FromBody, FromClause, Gives, Halts}
+use Rattle.ns_moves.specs.Control.{Control, Now, Enter, PartControl, Skip, Stop, EnterPart, Waiting, Waits, Finishes, halts, fails, charged, gives}
+use Rattle.ns_moves.specs.Bodies.{parameters_of, has_environment, first_locals, initialiser_of, clause_of, no_home, opened, is_beside, environment_at}
+use Rattle.ns_moves.specs.Bodies.{local_stored}
+use Rattle.ns_moves.specs.Classes.{newly_kept, kept_or, class_over, head, nested, instance, factory_selector, super_selector}
+use Rattle.ns_moves.specs.Classes.{declared_part, object_part, part_of, super_part, slot_filled, body_ended}
+use Rattle.ns_moves.specs.Blocks.{new_cell, block_entered, evaluated, waiting, listed, item_at, acted, method_next}
 use Rattle.ns_world.specs.KernelTable.{row_at}
-use Rattle.ns_actions.specs.Sends.{Target, receiver_of, found_at, site_at, Arguments, Listed, Wrapped, given, first_of, one_more}
-use Rattle.ns_actions.specs.Sends.{method_entered, factory_entered, set, nested_in, done_with, message_sel, not_found, answered_by, sent, sent_from}
+use Rattle.ns_moves.specs.Sends.{Target, receiver_of, found_at, site_at, Arguments, Listed, Wrapped, given, first_of, one_more}
+use Rattle.ns_moves.specs.Sends.{method_entered, factory_entered, set, nested_in, done_with, message_sel, not_found, answered_by, sent, sent_from}
 use Rattle.ns_link.specs.Fewer.{world_to, to_steps, after_to, control_to, part_to, waiting_to}
 use Rattle.ns_link.proofs.FewerRows.{made_to, entered_to, charged_to, stored_to, class_made_to, row_to}
 

@@ -18,26 +18,26 @@ use Rattle.ns_world.specs.World.{made}
 use Rattle.ns_find.specs.declared.found.Sending.TheVariants.{Inner}
 use Rattle.ns_kdata.specs.Arguments.{items_of}
 use Rattle.ns_facets.specs.declared.row.Grants.{Grants}
-use Rattle.ns_actions.specs.Control.{Progress, Activation, After, Gives, Halts, Control, Now, Enter, Evaluate, Begin, Perform, frame_left}
-use Rattle.ns_actions.specs.Control.{PartControl, Skip, Stop, EnterPart, Waiting, Waits, Finishes, halts}
-use Rattle.ns_actions.specs.Bodies.{locals_with}
-use Rattle.ns_actions.specs.Blocks.{new_cell, method_next}
+use Rattle.ns_moves.specs.Control.{Progress, Activation, After, Gives, Halts, Control, Now, Enter, Evaluate, Begin, Perform, frame_left}
+use Rattle.ns_moves.specs.Control.{PartControl, Skip, Stop, EnterPart, Waiting, Waits, Finishes, halts}
+use Rattle.ns_moves.specs.Bodies.{locals_with}
+use Rattle.ns_moves.specs.Blocks.{new_cell, method_next}
 use Rattle.ns_world.specs.Booleans.{is_boolean}
-use Rattle.ns_actions.specs.Classes.{super_part}
-use Rattle.ns_actions.specs.Sends.{Target, To, ToPrivate, ToSuper, to_value, sent}
-use Rattle.ns_actions.specs.Start.{start_cells, nothing_done, all_made, start_made}
+use Rattle.ns_moves.specs.Classes.{super_part}
+use Rattle.ns_moves.specs.Sends.{Target, To, ToPrivate, ToSuper, to_value, sent}
+use Rattle.ns_moves.specs.Start.{start_cells, nothing_done, all_made, start_made}
 use Rattle.ns_world.specs.declared.kernel_parts.KMethod.{KMethod}
-use Rattle.ns_actions.specs.declared.site.Site.{Site}
-use Rattle.ns_machine_moves.specs.Steps.{PlacedInstr, literal, steps_from}
-use Rattle.ns_machine_moves.specs.State.{Leaving, Loud, Silent, Frame, Running, Looping, Sending, Performing, Evaluating}
-use Rattle.ns_machine_moves.specs.State.{Phase, Start, First, Second, Hosted, State, Unbegun, Going, Pends, Ended, Stuck, progress_of, world_of}
-use Rattle.ns_machine_moves.specs.Returns.{delivered, settled, returned, is_home, has_home, unwound, returned_home}
-use Rattle.ns_machine_moves.specs.Arrivals.{arrived, part_arrived, acted_on}
-use Rattle.ns_machine_moves.specs.Operands.{on_top, taken_off, picked}
-use Rattle.ns_machine_moves.specs.Jumps.{goes_back, takes_jump, jumped, jumped_on}
-use Rattle.ns_machine_moves.specs.Instructions.{executed}
-use Rattle.ns_machine_moves.specs.Move.{move, moves}
-use Rattle.ns_machine_moves.specs.Starts.{unbegun, new_machine, started}
+use Rattle.ns_moves.specs.declared.site.Site.{Site}
+use Rattle.ns_moves.specs.Steps.{PlacedInstr, literal, steps_from}
+use Rattle.ns_moves.specs.State.{Leaving, Loud, Silent, Frame, Running, Looping, Sending, Performing, Evaluating}
+use Rattle.ns_moves.specs.State.{Phase, Start, First, Second, Hosted, State, Unbegun, Going, Pends, Ended, Stuck, progress_of, world_of}
+use Rattle.ns_moves.specs.Returns.{delivered, settled, returned, is_home, has_home, unwound, returned_home}
+use Rattle.ns_moves.specs.Arrivals.{arrived, part_arrived, acted_on}
+use Rattle.ns_moves.specs.Operands.{on_top, taken_off, picked}
+use Rattle.ns_moves.specs.Jumps.{goes_back, takes_jump, jumped, jumped_on}
+use Rattle.ns_moves.specs.Instructions.{executed}
+use Rattle.ns_moves.specs.Move.{move, moves}
+use Rattle.ns_moves.specs.Starts.{unbegun, new_machine, started}
 use Rattle.ns_link.specs.Fewer.{limits_to, to_steps, world_to, after_to, control_to, part_to, waiting_to, state_to}
 use Rattle.ns_link.proofs.OnTheWay.{MovesKnown}
 use Rattle.ns_link.proofs.FewerRows.{made_to, charged_to}

@@ -48,13 +48,13 @@ use Rattle.ns_mirror.specs.declared.row.Mirrored.TheVariants.{Answer, Perform as
 use Rattle.ns_mirror.specs.Mirror.{Reflected, Reflects, Refuses, reflected, perform, performed, performed_with, mirror}
 use Rattle.ns_world.specs.declared.kernel_row.Row.{Row}
 use Rattle.ns_world.specs.declared.kernel_row.Row.TheVariants as row
-use Rattle.ns_actions.specs.declared.site.Site.{Site}
-use Rattle.ns_actions.specs.Control.{Progress, in_world, After, Halts, Control, Now, Evaluate, Begin, charged, halts, fails}
-use Rattle.ns_actions.specs.Classes.{class_made, mixed}
-use Rattle.ns_actions.specs.Blocks.{has_arguments, turns_of, method_begun, value_with_arguments}
+use Rattle.ns_moves.specs.declared.site.Site.{Site}
+use Rattle.ns_moves.specs.Control.{Progress, in_world, After, Halts, Control, Now, Evaluate, Begin, charged, halts, fails}
+use Rattle.ns_moves.specs.Classes.{class_made, mixed}
+use Rattle.ns_moves.specs.Blocks.{has_arguments, turns_of, method_begun, value_with_arguments}
 use Rattle.ns_world.specs.declared.kernel_parts.KMethod.{KMethod}
 use Rattle.ns_kcode.specs.Rows.{beginning}
-use Rattle.ns_actions.specs.Kernel.{outcome_reached, answer_reached, reflected_reached, facet_reached, data_reached, row_reached}
+use Rattle.ns_moves.specs.Kernel.{outcome_reached, answer_reached, reflected_reached, facet_reached, data_reached, row_reached}
 use Rattle.ns_link.specs.Fewer.{world_to, to_steps, maybe_to, after_to, control_to}
 
 module _ (k : ℕ) where

@@ -11,15 +11,15 @@ use Rattle.ns_world.specs.declared.value.Value.TheVariants.{Nil, Ref}
 use Rattle.ns_world.specs.Cell.{Cell, cell_size}
 use Rattle.ns_world.specs.Heap.{heap_size}
 use Rattle.ns_world.specs.World.{World, made}
-use Rattle.ns_actions.specs.Control.{Progress, in_world, After, Gives, Halts, charged}
-use Rattle.ns_actions.specs.Start.{start_cells, nothing_done, all_made}
+use Rattle.ns_moves.specs.Control.{Progress, in_world, After, Gives, Halts, charged}
+use Rattle.ns_moves.specs.Start.{start_cells, nothing_done, all_made}
 use Rattle.ns_resolved.specs.Program.{Meant}
 use Rattle.ns_resolved.specs.Tables.{tables}
 use Rattle.ns_gen_code.specs.Code.{code_of}
 use Rattle.ns_model.specs.Whole.{RunEnd, ran}
-use Rattle.ns_machine_moves.specs.State.{Phase, State, Ended, progress_of, world_of}
-use Rattle.ns_machine_moves.specs.Move.{moves}
-use Rattle.ns_machine_moves.specs.Starts.{unbegun, started}
+use Rattle.ns_moves.specs.State.{Phase, State, Ended, progress_of, world_of}
+use Rattle.ns_moves.specs.Move.{moves}
+use Rattle.ns_moves.specs.Starts.{unbegun, started}
 use Rattle.ns_link.specs.Fewer.{limits_to, to_steps, state_to}
 use Rattle.ns_link.specs.Stated.{EndsAs, begins, SameEnd, EndsOnTheWay, FewerStepsBegin, RunsAsMeant}
 use Rattle.ns_link.proofs.OnTheWay.{MovesKnown, way}

@@ -1,10 +1,10 @@
 -- The homes of frames.
 use Rattle.std.proofs.Common.{◌≡◌, ℕ, List, [], ◌∷◌, refl}
 use Rattle.std.specs.Prelude.{Bool, true, false, cond, ◌==◌, ◌||◌}
-use Rattle.ns_actions.specs.Control.{FromMethod, FromBody, FromClause}
+use Rattle.ns_moves.specs.Control.{FromMethod, FromBody, FromClause}
 use Rattle.ns_model.specs.Outcome.{is_live}
-use Rattle.ns_machine_moves.specs.State.{Loud, Silent, Frame, Running, Looping}
-use Rattle.ns_machine_moves.specs.Returns.{has_home}
+use Rattle.ns_moves.specs.State.{Loud, Silent, Frame, Running, Looping}
+use Rattle.ns_moves.specs.Returns.{has_home}
 use Rattle.ns_link.specs.Shown.{homes}
 
 one_of : (b : Bool) (x y : Bool) → x ≡ y → cond b true x ≡ (b || y)

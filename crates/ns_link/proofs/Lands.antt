@@ -2,11 +2,11 @@
 use Rattle.std.proofs.Common.{◌≡◌, ℕ, zero, suc, List, refl, ap, ◌∙◌}
 use Rattle.ns_code.specs.declared.program.CodeProgram.{CodeProgram}
 use Rattle.ns_world.specs.declared.value.Value.{Value}
-use Rattle.ns_actions.specs.Control.{Progress, After, Gives, Halts}
+use Rattle.ns_moves.specs.Control.{Progress, After, Gives, Halts}
 use Rattle.ns_model.specs.Outcome.{Completion, Yields, Returns, Ends, Spent, bind, settled}
-use Rattle.ns_machine_moves.specs.State.{Frame, Phase, State, Ended}
-use Rattle.ns_machine_moves.specs.Returns.{unwound, delivered, settled as machine_settled}
-use Rattle.ns_machine_moves.specs.Move.{move, moves}
+use Rattle.ns_moves.specs.State.{Frame, Phase, State, Ended}
+use Rattle.ns_moves.specs.Returns.{unwound, delivered, settled as machine_settled}
+use Rattle.ns_moves.specs.Move.{move, moves}
 
 module _ (code : CodeProgram) where
   pub record Reaches (s s' : State) : Type 0 where

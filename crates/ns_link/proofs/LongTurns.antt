@@ -6,14 +6,14 @@ use Rattle.ns_code.specs.declared.program.CodeProgram.{CodeProgram}
 use Rattle.ns_base.specs.declared.limits.Limits.{Limits}
 use Rattle.ns_facets.specs.declared.row.Grants.{Grants}
 use Rattle.ns_model.specs.Whole.{RunEnd}
-use Rattle.ns_machine_moves.specs.State.{State, Unbegun, Going, Pends, Ended, Stuck, world_of}
-use Rattle.ns_machine_moves.specs.Move.{move, moves}
-use Rattle.ns_machine_moves.specs.Turn.{is_still, ends_with_steps, charges, one_if, charged_in, Turns}
-use Rattle.ns_machine_moves.specs.Stated.{StaysStill}
-use Rattle.ns_machine_moves.specs.Onward.{MovesGoOnward}
-use Rattle.ns_machine_moves.specs.Standing.{MovesKeepValid}
-use Rattle.ns_machine_moves.specs.Valid.{Valid}
-use Rattle.ns_machine_moves.specs.laws.Still.{moves_on}
+use Rattle.ns_moves.specs.State.{State, Unbegun, Going, Pends, Ended, Stuck, world_of}
+use Rattle.ns_moves.specs.Move.{move, moves}
+use Rattle.ns_moves.specs.Turn.{is_still, ends_with_steps, charges, one_if, charged_in, Turns}
+use Rattle.ns_moves.specs.StatedMoves.{StaysStill}
+use Rattle.ns_moves.specs.MovesOnward.{MovesGoOnward}
+use Rattle.ns_moves.specs.Standing.{MovesKeepValid}
+use Rattle.ns_moves.specs.Valid.{Valid}
+use Rattle.ns_moves.specs.laws.Still.{moves_on}
 use Rattle.ns_link.specs.Stated.{IsOnTheWay, HasEnded}
 
 either : (less ends : Bool) → (less || ends) ≡ true → ends ≡ false → less ≡ true

@@ -2,11 +2,11 @@
 use Rattle.std.proofs.Common.{◌≡◌, ℕ, ◌+◌, refl, sym, ap, ◌∙◌, inl, inr, arith}
 use Rattle.ns_code.specs.declared.program.CodeProgram.{CodeProgram}
 use Rattle.ns_model.specs.Whole.{RunEnd}
-use Rattle.ns_machine_moves.specs.State.{State, Ended, progress_of}
-use Rattle.ns_machine_moves.specs.Move.{moves}
-use Rattle.ns_machine_moves.specs.Turn.{Turns}
-use Rattle.ns_machine_moves.specs.Stated.{MovesAdd, StaysStill}
-use Rattle.ns_machine_moves.specs.Onward.{MovesGoOnward}
+use Rattle.ns_moves.specs.State.{State, Ended, progress_of}
+use Rattle.ns_moves.specs.Move.{moves}
+use Rattle.ns_moves.specs.Turn.{Turns}
+use Rattle.ns_moves.specs.StatedMoves.{MovesAdd, StaysStill}
+use Rattle.ns_moves.specs.MovesOnward.{MovesGoOnward}
 use Rattle.ns_link.specs.Stated.{EndsAs, IsOnTheWay}
 
 -- what is known of moves

@@ -5,15 +5,15 @@ use Rattle.std.specs.Option.{option_map, option_map_or}
 use Rattle.std.proofs.lemmas.Option.{slice_get-map}
 use Rattle.ns_code.specs.declared.class.ClassCode.{ClassCode}
 use Rattle.ns_code.specs.declared.instruction.Instr.TheVariants as i
-use Rattle.ns_actions.specs.Bodies.{initialiser_of}
+use Rattle.ns_moves.specs.Bodies.{initialiser_of}
 use Rattle.ns_resolved.specs.Program as m
 use Rattle.ns_resolved.specs.Tables.{node_texts, nodes_texts, class_code}
 use Rattle.ns_model.specs.Run.{does_at}
 use Rattle.ns_model.specs.Whole.{place_in, opening_place}
 use Rattle.ns_gen_code.specs.Code.{CodeLine, does, sends, starts, plain, inner, private_at, super, how_many, node_lines, nodes_lines, messages_lines}
 use Rattle.ns_gen_code.specs.Code.{body_lines, slots_lines, expressions_lines, code_of}
-use Rattle.ns_machine_moves.specs.Steps.{super_place, steps_of}
-use Rattle.ns_machine_moves.specs.Steps as steps
+use Rattle.ns_moves.specs.Steps.{super_place, steps_of}
+use Rattle.ns_moves.specs.Steps as steps
 use Rattle.ns_link.specs.Shown.{shown}
 use Rattle.ns_link.proofs.Coded.{coded}
 

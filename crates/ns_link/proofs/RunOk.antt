@@ -5,22 +5,22 @@ use Rattle.ns_code.specs.declared.program.CodeProgram.{CodeProgram}
 use Rattle.ns_world.specs.declared.value.Value.{Value}
 use Rattle.ns_world.specs.declared.kernel_parts.KMethod.{KMethod}
 use Rattle.ns_kcode.specs.declared.state.KState.{KState}
-use Rattle.ns_actions.specs.declared.site.Site.{Site}
-use Rattle.ns_actions.specs.Control.{Progress, Activation, Exit, FromMethod, FromBody, FromClause, Now, Enter, Evaluate, frame_left}
-use Rattle.ns_actions.specs.Control.{Begin, Perform, Skip, Stop, EnterPart, Waiting, Waits, Finishes}
-use Rattle.ns_actions.specs.Classes.{body_ended}
-use Rattle.ns_actions.specs.Blocks.{evaluated, method_next, taken}
-use Rattle.ns_actions.specs.Sends.{performed}
+use Rattle.ns_moves.specs.declared.site.Site.{Site}
+use Rattle.ns_moves.specs.Control.{Progress, Activation, Exit, FromMethod, FromBody, FromClause, Now, Enter, Evaluate, frame_left}
+use Rattle.ns_moves.specs.Control.{Begin, Perform, Skip, Stop, EnterPart, Waiting, Waits, Finishes}
+use Rattle.ns_moves.specs.Classes.{body_ended}
+use Rattle.ns_moves.specs.Blocks.{evaluated, method_next, taken}
+use Rattle.ns_moves.specs.Sends.{performed}
 use Rattle.ns_resolved.specs.Program.{Meant}
 use Rattle.ns_resolved.specs.Tables.{gathered, node_texts, nodes_texts}
 use Rattle.ns_model.specs.Outcome.{Completion, Yields, Returns, Ends, Spent, passed, caught, finish, finish_part, is_home}
 use Rattle.ns_model.specs.Eval.{Call}
 use Rattle.ns_model.specs.Run.{does_at, gone_on, run_part, run}
 use Rattle.ns_gen_code.specs.Code.{body_lines}
-use Rattle.ns_machine_moves.specs.Steps.{steps_of}
-use Rattle.ns_machine_moves.specs.State.{Leaving, Loud, Silent, Frame, Running, Looping, Phase, State, Going}
-use Rattle.ns_machine_moves.specs.Returns.{unwound, delivered, returned}
-use Rattle.ns_machine_moves.specs.Arrivals.{arrived, acted_on}
+use Rattle.ns_moves.specs.Steps.{steps_of}
+use Rattle.ns_moves.specs.State.{Leaving, Loud, Silent, Frame, Running, Looping, Phase, State, Going}
+use Rattle.ns_moves.specs.Returns.{unwound, delivered, returned}
+use Rattle.ns_moves.specs.Arrivals.{arrived, acted_on}
 use Rattle.ns_link.specs.Shown.{shown, homes}
 use Rattle.ns_link.proofs.Lands.{Reaches, here, step, Lands, first, seq, gives}
 use Rattle.ns_link.proofs.Sim.{CallOk, PartOk, Texts, sim_body}

@@ -8,23 +8,23 @@ use Rattle.ns_code.specs.declared.instruction.Instr.TheVariants as i
 use Rattle.ns_world.specs.declared.value.Value.{Value}
 use Rattle.ns_world.specs.declared.ending.Kind.TheVariants.{DeadReturn}
 use Rattle.ns_find.specs.declared.found.Sending.TheVariants.{Inner}
-use Rattle.ns_actions.specs.Site.{error}
-use Rattle.ns_actions.specs.Control.{Progress, Activation, After, Gives, Halts, Control, PartControl}
-use Rattle.ns_actions.specs.Bodies.{enclosing}
-use Rattle.ns_actions.specs.Blocks.{new_block, new_text, new_array}
-use Rattle.ns_actions.specs.Classes.{super_part, slot_filled}
-use Rattle.ns_actions.specs.Sends.{To, ToPrivate, ToSuper, to_value, sent}
+use Rattle.ns_moves.specs.Site.{error}
+use Rattle.ns_moves.specs.Control.{Progress, Activation, After, Gives, Halts, Control, PartControl}
+use Rattle.ns_moves.specs.Bodies.{enclosing}
+use Rattle.ns_moves.specs.Blocks.{new_block, new_text, new_array}
+use Rattle.ns_moves.specs.Classes.{super_part, slot_filled}
+use Rattle.ns_moves.specs.Sends.{To, ToPrivate, ToSuper, to_value, sent}
 use Rattle.ns_resolved.specs.Program as m
 use Rattle.ns_resolved.specs.Tables.{sel_of, node_texts, nodes_texts, messages_texts, value_of, step_node, gathered}
 use Rattle.ns_model.specs.Outcome.{Completion, Yields, bind, settled, back, is_live, going_home}
 use Rattle.ns_model.specs.Eval.{Call, PartCall, eval, eval_all, eval_messages, locals_begun, slots_filled, each_evaluated, method_steps, block_steps, eval_body}
 use Rattle.ns_gen_code.specs.Code.{CodeLine, does, sends, starts, plain, inner, private_at, super, how_many, node_lines, nodes_lines, messages_lines}
 use Rattle.ns_gen_code.specs.Code.{locals_lines, slots_lines, method_lines, block_lines, expressions_lines, body_lines}
-use Rattle.ns_machine_moves.specs.Steps.{literal}
-use Rattle.ns_machine_moves.specs.State.{Leaving, Frame, Running, Phase, State, Going, Ended, Stuck}
-use Rattle.ns_machine_moves.specs.Operands.{on_top, taken_off}
-use Rattle.ns_machine_moves.specs.Returns.{unwound, delivered, returned, has_home, settled as machine_settled}
-use Rattle.ns_machine_moves.specs.Arrivals.{arrived, part_arrived}
+use Rattle.ns_moves.specs.Steps.{literal}
+use Rattle.ns_moves.specs.State.{Leaving, Frame, Running, Phase, State, Going, Ended, Stuck}
+use Rattle.ns_moves.specs.Operands.{on_top, taken_off}
+use Rattle.ns_moves.specs.Returns.{unwound, delivered, returned, has_home, settled as machine_settled}
+use Rattle.ns_moves.specs.Arrivals.{arrived, part_arrived}
 use Rattle.ns_link.specs.Shown.{shown, lives_in, homes}
 use Rattle.ns_link.proofs.Lands.{Reaches, here, step, Lands, first, seq, OnVal, on_bind, on_any, seq_with, then_on}
 use Rattle.ns_link.proofs.Homes.{has_live}

@@ -12,16 +12,16 @@ use Rattle.ns_world.specs.Cell.{Cell}
 use Rattle.ns_world.specs.Heap.{heap_size, cell_number}
 use Rattle.ns_world.specs.World.{World, made}
 use Rattle.ns_facets.specs.declared.row.Grants.{Grants}
-use Rattle.ns_actions.specs.Control.{Progress, in_world, After, Gives, Halts, charged}
-use Rattle.ns_actions.specs.Sends.{site_at, own_sel}
-use Rattle.ns_actions.specs.Start.{start_cells, nothing_done, all_made, start_made, manifest, first_class}
+use Rattle.ns_moves.specs.Control.{Progress, in_world, After, Gives, Halts, charged}
+use Rattle.ns_moves.specs.Sends.{site_at, own_sel}
+use Rattle.ns_moves.specs.Start.{start_cells, nothing_done, all_made, start_made, manifest, first_class}
 use Rattle.ns_resolved.specs.Program.{Meant}
 use Rattle.ns_model.specs.Laws.{EndsByItself, ReturnsGoHome, RunsEnd}
 use Rattle.ns_model.specs.Whole.{opened_after, opening_place, ran}
 use Rattle.ns_gen_code.specs.Code.{code_of}
-use Rattle.ns_machine_moves.specs.Steps as steps
-use Rattle.ns_machine_moves.specs.State.{Sending, Start, First, State, Pends}
-use Rattle.ns_machine_moves.specs.Starts.{unbegun, started}
+use Rattle.ns_moves.specs.Steps as steps
+use Rattle.ns_moves.specs.State.{Sending, Start, First, State, Pends}
+use Rattle.ns_moves.specs.Starts.{unbegun, started}
 use Rattle.ns_link.specs.Stated.{EndsAs, HasFirst, begins}
 use Rattle.ns_link.proofs.Whole.{whole}
 use Rattle.ns_link.proofs.Opening.{opening_same}

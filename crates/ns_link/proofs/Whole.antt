@@ -5,19 +5,19 @@ use Rattle.ns_code.specs.declared.own.Own.{Own}
 use Rattle.ns_code.specs.declared.own.Own.TheVariants.{PackageUsing, MainArgs}
 use Rattle.ns_world.specs.declared.value.Value.{Value}
 use Rattle.ns_world.specs.declared.value.Value.TheVariants.{Ref}
-use Rattle.ns_actions.specs.Control.{Progress}
-use Rattle.ns_actions.specs.Sends.{sent_plain, site_at, own_sel}
+use Rattle.ns_moves.specs.Control.{Progress}
+use Rattle.ns_moves.specs.Sends.{sent_plain, site_at, own_sel}
 use Rattle.ns_resolved.specs.Program.{Meant}
 use Rattle.ns_model.specs.Outcome.{Completion, Yields, Returns, Ends, Spent, bind}
 use Rattle.ns_model.specs.Laws.{IsEnough, GoesHome, ReturnsGoHome}
 use Rattle.ns_model.specs.Run.{fuel_of}
-use Rattle.ns_actions.specs.Start.{manifest, platform, first_class}
+use Rattle.ns_moves.specs.Start.{manifest, platform, first_class}
 use Rattle.ns_model.specs.Whole.{opening, opened, opening_place, concluded}
 use Rattle.ns_gen_code.specs.Code.{code_of}
-use Rattle.ns_machine_moves.specs.Steps as steps
-use Rattle.ns_machine_moves.specs.State.{Sending, Phase, First, Second, State, Pends}
-use Rattle.ns_machine_moves.specs.Returns.{delivered}
-use Rattle.ns_machine_moves.specs.Arrivals.{arrived}
+use Rattle.ns_moves.specs.Steps as steps
+use Rattle.ns_moves.specs.State.{Sending, Phase, First, Second, State, Pends}
+use Rattle.ns_moves.specs.Returns.{delivered}
+use Rattle.ns_moves.specs.Arrivals.{arrived}
 use Rattle.ns_link.specs.Stated.{EndsAs}
 use Rattle.ns_link.proofs.Lands.{Reaches, step, Lands, first}
 use Rattle.ns_link.proofs.RunOk.{run_ok}

@@ -2,9 +2,9 @@
 use Rattle.std.specs.Prelude.{ℕ, Option, Some, None}
 use Rattle.ns_base.specs.declared.limits.Limits.{Limits}
 use Rattle.ns_world.specs.World.{World}
-use Rattle.ns_actions.specs.Control.{Progress, After, Gives, Halts, Control, Now, Enter, Evaluate, Begin, Perform, PartControl, Skip, Stop, EnterPart}
-use Rattle.ns_actions.specs.Control.{Waiting, Waits, Finishes}
-use Rattle.ns_machine_moves.specs.State.{State, Unbegun, Going, Pends, Ended, Stuck}
+use Rattle.ns_moves.specs.Control.{Progress, After, Gives, Halts, Control, Now, Enter, Evaluate, Begin, Perform, PartControl, Skip, Stop, EnterPart}
+use Rattle.ns_moves.specs.Control.{Waiting, Waits, Finishes}
+use Rattle.ns_moves.specs.State.{State, Unbegun, Going, Pends, Ended, Stuck}
 
 -- the same limits, but so many steps
 abbrev pub limits_to : ℕ → Limits → Limits

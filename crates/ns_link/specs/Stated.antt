@@ -16,10 +16,10 @@ use Rattle.ns_resolved.specs.Tables.{tables}
 use Rattle.ns_gen_code.specs.Code.{code_of}
 use Rattle.ns_model.specs.Run.{does_at}
 use Rattle.ns_model.specs.Whole.{RunEnd, ran, report_of, meaning_of_run}
-use Rattle.ns_machine_moves.specs.State.{Phase, State, Ended, progress_of}
-use Rattle.ns_machine_moves.specs.Move.{moves}
-use Rattle.ns_machine_moves.specs.Starts.{new_machine, started}
-use Rattle.ns_machine_moves.specs.Turn.{Turns, is_still}
+use Rattle.ns_moves.specs.State.{Phase, State, Ended, progress_of}
+use Rattle.ns_moves.specs.Move.{moves}
+use Rattle.ns_moves.specs.Starts.{new_machine, started}
+use Rattle.ns_moves.specs.Turn.{Turns, is_still}
 use Rattle.ns_link.specs.Fewer.{limits_to, to_steps}
 
 -- ---- a run and its end

@@ -39,9 +39,9 @@ pub fn turns_are_on_the_way()
     ensures { (meant : Meant) → TurnsAreOnTheWay meant }
 {
     the_machine_does_what_is_meant();
-    ns_machine_moves::laws::moves_add();
-    ns_machine_moves::laws::ended_runs_stay();
-    ns_machine_moves::laws::moves_go_onward();
+    ns_moves::move_laws::moves_add();
+    ns_moves::move_laws::ended_runs_stay();
+    ns_moves::move_laws::moves_go_onward();
 }
 
 /// A turn of one step more than the limit comes to that end.
@@ -49,11 +49,11 @@ pub fn long_turns_come_to_the_end()
     ensures { (meant : Meant) → LongTurnsEnd meant }
 {
     turns_are_on_the_way();
-    ns_machine_moves::laws::ended_runs_stay();
-    ns_machine_moves::laws::moves_go_onward();
-    ns_machine_moves::valid_world::new_machines_are_valid();
-    ns_machine_moves::valid_world::opening_sends_are_valid();
-    ns_machine_moves::valid_frames::moves_keep_valid();
+    ns_moves::move_laws::ended_runs_stay();
+    ns_moves::move_laws::moves_go_onward();
+    ns_moves::valid_world::new_machines_are_valid();
+    ns_moves::valid_world::opening_sends_are_valid();
+    ns_moves::valid_frames::moves_keep_valid();
 }
 
 /// With fewer steps a program's run means the same, but for the limit itself, or that limit ends it
@@ -63,7 +63,7 @@ pub fn fewer_steps_begin_the_run()
     ensures { (meant : Meant) → FewerStepsBegin meant }
 {
     the_machine_does_what_is_meant();
-    ns_machine_moves::laws::moves_add();
-    ns_machine_moves::laws::ended_runs_stay();
-    ns_machine_moves::laws::moves_go_onward();
+    ns_moves::move_laws::moves_add();
+    ns_moves::move_laws::ended_runs_stay();
+    ns_moves::move_laws::moves_go_onward();
 }

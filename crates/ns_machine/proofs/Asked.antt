@@ -10,8 +10,8 @@ use Rattle.ns_base.specs.declared.selector.Sel.{Sel}
 use Rattle.ns_code.specs.declared.program.CodeProgram.{CodeProgram}
 use Rattle.ns_code.specs.Selector.{own_text_at, selector_text, text_arity, is_selector_number, name_number}
 use Rattle.ns_world.specs.declared.value.Value.{Value}
-use Rattle.ns_machine_moves.specs.State.{State}
-use Rattle.ns_machine_moves.specs.Beginning.{MayBegin}
+use Rattle.ns_moves.specs.State.{State}
+use Rattle.ns_moves.specs.Beginning.{MayBegin}
 use Rattle.ns_machine.specs.Asking.{named, MayAsk}
 
 -- ---- names

@@ -2,7 +2,7 @@
 use Rattle.std.proofs.Common.{◌≡◌, ℕ, ap, sym, ◌∙◌, Result, Ok, Err, IfOk}
 use Rattle.ns_code.specs.declared.program.CodeProgram.{CodeProgram}
 use Rattle.ns_facets.specs.declared.row.Grants.{Grants}
-use Rattle.ns_machine_moves.specs.State.{Unbegun}
+use Rattle.ns_moves.specs.State.{Unbegun}
 use Rattle.ns_frozen.specs.declared.frozen.Frozen.{Frozen}
 use Rattle.ns_frozen.specs.Freezing.{frozen_of}
 use Rattle.ns_machine_core.specs.declared.state.Core.{Core}

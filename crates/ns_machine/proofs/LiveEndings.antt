@@ -5,11 +5,11 @@ use Rattle.ns_code.specs.declared.program.CodeProgram.{CodeProgram}
 use Rattle.ns_facets.specs.declared.row.Grants.{Grants}
 use Rattle.ns_world.specs.declared.ending.Ending.{Ending}
 use Rattle.ns_world.specs.declared.ending.Ending.TheVariants.{Done, Error, Limit}
-use Rattle.ns_actions.specs.Control.{Progress}
+use Rattle.ns_moves.specs.Control.{Progress}
 use Rattle.ns_machine_report.specs.Ending.{IsLiveEnding}
-use Rattle.ns_machine_moves.specs.State.{Phase, State, Unbegun, Going, Pends, Ended, Stuck, ending_of, world_of}
-use Rattle.ns_machine_moves.specs.State as state
-use Rattle.ns_machine_moves.specs.Valid.{EndIsValid, Valid}
+use Rattle.ns_moves.specs.State.{Phase, State, Unbegun, Going, Pends, Ended, Stuck, ending_of, world_of}
+use Rattle.ns_moves.specs.State as state
+use Rattle.ns_moves.specs.Valid.{EndIsValid, Valid}
 
 pub live_ending : (code : CodeProgram) (grants : Grants) (ending : Ending) (phase : Phase) (p : Progress) →
     EndIsValid code grants ending phase p

@@ -8,7 +8,7 @@ use Rattle.ns_code.specs.declared.program.CodeProgram.{CodeProgram}
 use Rattle.ns_code.specs.declared.body.BodyCode.{BodyCode}
 use Rattle.ns_code.specs.declared.instruction.Instr.TheVariants.{ReturnSelf}
 use Rattle.ns_find.specs.declared.found.Sending.TheVariants.{Plain, Inner}
-use Rattle.ns_machine_moves.specs.Steps.{super_place, super_place_or, placed, steps_of, steps_from}
+use Rattle.ns_moves.specs.Steps.{super_place, super_place_or, placed, steps_of, steps_from}
 use Rattle.ns_machine_plan.specs.declared.step.Step.{Step}
 use Rattle.ns_machine_plan.specs.declared.step.Step.TheVariants.{Send, InitSuper}
 use Rattle.ns_machine_plan.specs.Plan.{IsStepAt}

@@ -6,9 +6,9 @@ use Rattle.ns_base.specs.Limits.{InRange}
 use Rattle.ns_base.specs.declared.place.Place.{Place as SourcePlace}
 use Rattle.ns_code.specs.declared.program.CodeProgram.{CodeProgram}
 use Rattle.ns_facets.specs.declared.row.Grants.{Grants}
-use Rattle.ns_actions.specs.Control.{Progress}
-use Rattle.ns_machine_moves.specs.State.{world_of}
-use Rattle.ns_machine_moves.specs.Valid.{Valid}
+use Rattle.ns_moves.specs.Control.{Progress}
+use Rattle.ns_moves.specs.State.{world_of}
+use Rattle.ns_moves.specs.Valid.{Valid}
 use Rattle.ns_machine_plan.specs.declared.plan.Plan.{Plan}
 use Rattle.ns_machine_plan.specs.Steps.{places_of}
 use Rattle.ns_frozen.specs.declared.frozen.Frozen.{Frozen}

@@ -3,13 +3,13 @@ use Rattle.std.proofs.Common.{◌≡◌, ℕ, zero, suc, ◌+◌, ◌≤◌, ◌
 use Rattle.std.proofs.lemmas.Bool.{ltb-true}
 use Rattle.ns_code.specs.declared.program.CodeProgram.{CodeProgram}
 use Rattle.ns_facets.specs.declared.row.Grants.{Grants}
-use Rattle.ns_actions.specs.Control.{Progress}
-use Rattle.ns_machine_moves.specs.State.{State, world_of}
-use Rattle.ns_machine_moves.specs.Stated.{StaysStill}
-use Rattle.ns_machine_moves.specs.Onward.{MovesGoOnward}
-use Rattle.ns_machine_moves.specs.Move.{move, moves}
-use Rattle.ns_machine_moves.specs.Turn.{is_still, ends_with_steps, charges, one_if, charged_in, Turned, Turns}
-use Rattle.ns_machine_moves.specs.laws.Still.{limited_still, none_charged}
+use Rattle.ns_moves.specs.Control.{Progress}
+use Rattle.ns_moves.specs.State.{State, world_of}
+use Rattle.ns_moves.specs.StatedMoves.{StaysStill}
+use Rattle.ns_moves.specs.MovesOnward.{MovesGoOnward}
+use Rattle.ns_moves.specs.Move.{move, moves}
+use Rattle.ns_moves.specs.Turn.{is_still, ends_with_steps, charges, one_if, charged_in, Turned, Turns}
+use Rattle.ns_moves.specs.laws.Still.{limited_still, none_charged}
 use Rattle.ns_base.specs.declared.limits.Limits.{Limits}
 use Rattle.ns_machine_frames.specs.declared.frame.Pending.{Pending}
 use Rattle.ns_machine_frames.specs.declared.registers.Registers.{Registers}

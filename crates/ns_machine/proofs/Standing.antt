@@ -7,15 +7,15 @@ use Rattle.ns_world.specs.declared.value.Value.{Value}
 use Rattle.ns_world.specs.declared.cell.CellLimit.{CellLimit}
 use Rattle.ns_world.specs.World.{WorldView}
 use Rattle.ns_world.specs.Lawful.{IsLawful}
-use Rattle.ns_actions.specs.Control.{Progress, in_world}
-use Rattle.ns_actions.specs.Start.{nothing_done, start_made}
+use Rattle.ns_moves.specs.Control.{Progress, in_world}
+use Rattle.ns_moves.specs.Start.{nothing_done, start_made}
 use Rattle.ns_machine_start.specs.Making.{start_shown}
-use Rattle.ns_machine_moves.specs.State.{Ended, progress_of, swapped}
-use Rattle.ns_machine_moves.specs.Starts.{unbegun, new_machine}
-use Rattle.ns_machine_moves.specs.Valid.{Valid}
+use Rattle.ns_moves.specs.State.{Ended, progress_of, swapped}
+use Rattle.ns_moves.specs.Starts.{unbegun, new_machine}
+use Rattle.ns_moves.specs.Valid.{Valid}
 use Rattle.ns_machine_core.specs.declared.state.Core.{Core}
 use Rattle.ns_machine_core.specs.Shown.{phase_shown, progress_in}
-use Rattle.ns_machine_moves.specs.laws.Worlds.{valid_lawful}
+use Rattle.ns_moves.specs.laws.Worlds.{valid_lawful}
 use Rattle.ns_machine_core.specs.laws.Kept.{shown_progress, rooms_stay}
 use Rattle.ns_machine_core.specs.declared.state.Phase.{Phase as KeptPhase}
 use Rattle.ns_machine_core.specs.declared.state.Phase.TheVariants.{Start, Hosted}
@@ -26,11 +26,11 @@ use Rattle.std.proofs.Common.{Option, None, Bool, if◌then◌else◌, length}
 use Rattle.ns_machine_core.specs.Ready.{MachineIsReady}
 use Rattle.ns_machine_turns.specs.Turning.{RunsBy}
 use Rattle.ns_base.specs.declared.selector.Sel.{Sel}
-use Rattle.ns_actions.specs.Sends.{site_at}
-use Rattle.ns_machine_moves.specs.State as state
-use Rattle.ns_machine_moves.specs.State.{Sending, Pends, world_of}
-use Rattle.ns_machine_moves.specs.Starts.{begun}
-use Rattle.ns_machine_moves.specs.Beginning.{MayBegin, HostKeepsValid}
+use Rattle.ns_moves.specs.Sends.{site_at}
+use Rattle.ns_moves.specs.State as state
+use Rattle.ns_moves.specs.State.{Sending, Pends, world_of}
+use Rattle.ns_moves.specs.Starts.{begun}
+use Rattle.ns_moves.specs.Beginning.{MayBegin, HostKeepsValid}
 use Rattle.ns_machine_plan.specs.Steps.{no_place}
 use Rattle.ns_machine_core.specs.declared.state.Next.{Next}
 use Rattle.ns_machine_core.specs.Shown.{shown}
@@ -45,9 +45,9 @@ use Rattle.std.specs.List.{slice_get}
 use Rattle.ns_base.specs.declared.place.Place.{Place as SourcePlace}
 use Rattle.ns_facets.specs.declared.board.Board.{Board}
 use Rattle.ns_find.specs.Memo.{PlaceIsRight}
-use Rattle.ns_actions.specs.declared.run.Run.{Run}
-use Rattle.ns_machine_moves.specs.Steps.{opening_place}
-use Rattle.ns_machine_moves.specs.WorldStays.{SwapsKeepValid}
+use Rattle.ns_moves.specs.declared.run.Run.{Run}
+use Rattle.ns_moves.specs.Steps.{opening_place}
+use Rattle.ns_moves.specs.WorldStays.{SwapsKeepValid}
 use Rattle.ns_machine_frames.specs.declared.frame.Pending.{Pending}
 use Rattle.ns_machine_frames.specs.declared.frame.Pending.TheVariants as pending
 use Rattle.ns_machine_frames.specs.declared.registers.Registers.{Registers}

@@ -5,7 +5,7 @@ use Rattle.ns_base.specs.declared.selector.Sel.{Sel}
 use Rattle.ns_code.specs.declared.program.CodeProgram.{CodeProgram}
 use Rattle.ns_world.specs.declared.value.Value.{Value}
 use Rattle.ns_world.specs.Starts.{class_name_of}
-use Rattle.ns_machine_moves.specs.State as state
+use Rattle.ns_moves.specs.State as state
 use Rattle.ns_machine_frames.specs.declared.frame.Frame.{Frame}
 use Rattle.ns_machine_frames.specs.declared.frame.KeptSite.{KeptSite}
 use Rattle.ns_machine_frames.specs.declared.frame.Pending.TheVariants as pending
@@ -19,7 +19,7 @@ use Rattle.ns_machine_core.specs.declared.state.Core.{Core}
 use Rattle.ns_machine_core.specs.declared.state.Next.TheVariants as next
 use Rattle.ns_machine_core.specs.Shown.{phase_shown, progress_in}
 use Rattle.ns_machine_core.specs.Standing.{AreStanding}
-use Rattle.ns_actions.specs.Bodies.{height_in, greatest_of}
+use Rattle.ns_moves.specs.Bodies.{height_in, greatest_of}
 use Rattle.ns_machine.specs.Waiting.{HostSendWaits}
 
 -- without frames none are shown, and those that there are stand wherever their values end

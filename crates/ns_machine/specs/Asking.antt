@@ -5,7 +5,7 @@ use Rattle.ns_code.specs.declared.program.CodeProgram.{CodeProgram}
 use Rattle.ns_code.specs.Selector.{text_arity, name_number}
 use Rattle.ns_world.specs.declared.value.Value.{Value}
 use Rattle.ns_world.specs.Lawful.{IsLiveValue}
-use Rattle.ns_machine_moves.specs.State.{State, is_idle, world_of}
+use Rattle.ns_moves.specs.State.{State, is_idle, world_of}
 
 -- the selector of a name: its number among the names of the code, where it is one of them
 abbrev pub named : CodeProgram → List ℕ → Sel

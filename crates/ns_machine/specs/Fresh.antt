@@ -5,7 +5,7 @@ use Rattle.ns_code.specs.declared.program.CodeProgram.{CodeProgram}
 use Rattle.ns_world.specs.declared.ending.Ending.TheVariants.{Limit}
 use Rattle.ns_world.specs.declared.ending.LimitKind.TheVariants.{Cells}
 use Rattle.ns_find.specs.Memo.{IsEmpty}
-use Rattle.ns_actions.specs.Start.{nothing_done}
+use Rattle.ns_moves.specs.Start.{nothing_done}
 use Rattle.ns_machine_core.specs.declared.state.Core.{Core}
 use Rattle.ns_machine_core.specs.declared.state.Phase.TheVariants.{Start}
 use Rattle.ns_machine_core.specs.Shown.{progress_in}

@@ -1,7 +1,7 @@
 -- The sends that the frames answer which a machine keeps.
 use Rattle.std.specs.Prelude.{List}
 use Rattle.ns_base.specs.declared.place.Place.{Place as SourcePlace}
-use Rattle.ns_actions.specs.declared.site.Site.{Site}
+use Rattle.ns_moves.specs.declared.site.Site.{Site}
 use Rattle.ns_machine_frames.specs.declared.frame.Frame.{Frame as KeptFrame}
 use Rattle.ns_machine_frames.specs.declared.frame.Frame.TheVariants as kept
 use Rattle.ns_machine_frames.specs.declared.frame.KeptSite.{KeptSite}

@@ -3,8 +3,8 @@ use Rattle.std.specs.Prelude.{◌≡◌, ℕ, Result, Ok, Err}
 use Rattle.ns_code.specs.declared.program.CodeProgram.{CodeProgram}
 use Rattle.ns_world.specs.declared.cell.CellLimit.{CellLimit}
 use Rattle.ns_facets.specs.declared.row.Grants.{Grants}
-use Rattle.ns_machine_moves.specs.State.{State, Unbegun}
-use Rattle.ns_machine_moves.specs.Valid.{Valid}
+use Rattle.ns_moves.specs.State.{State, Unbegun}
+use Rattle.ns_moves.specs.Valid.{Valid}
 use Rattle.ns_machine_plan.specs.declared.plan.Plan.{Plan}
 use Rattle.ns_machine_plan.specs.Plan.{IsPlanOf}
 use Rattle.ns_machine_core.specs.declared.state.Core.{Core}

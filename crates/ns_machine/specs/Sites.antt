@@ -1,7 +1,7 @@
 -- The sends that a state's frames answer.
 use Rattle.std.specs.Prelude.{List, [], map}
-use Rattle.ns_actions.specs.declared.site.Site.{Site}
-use Rattle.ns_machine_moves.specs.State.{Frame, Running, Looping, State, Unbegun, Going, Pends, Ended, Stuck}
+use Rattle.ns_moves.specs.declared.site.Site.{Site}
+use Rattle.ns_moves.specs.State.{Frame, Running, Looping, State, Unbegun, Going, Pends, Ended, Stuck}
 
 -- the send that a frame answers
 abbrev pub site_of : Frame → Site

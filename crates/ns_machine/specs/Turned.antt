@@ -1,5 +1,5 @@
 -- What a turn of a machine answers.
-use Rattle.ns_machine_moves.specs.State.{State, Unbegun, Going, Pends, Ended, Stuck}
+use Rattle.ns_moves.specs.State.{State, Unbegun, Going, Pends, Ended, Stuck}
 use Rattle.ns_machine.specs.declared.stage.Turn.{Turn}
 use Rattle.ns_machine.specs.declared.stage.Turn.TheVariants as turn
 

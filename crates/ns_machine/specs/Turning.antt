@@ -3,8 +3,8 @@ use Rattle.std.specs.Prelude.{◌≡◌, ℕ, Some}
 use Rattle.ns_code.specs.declared.program.CodeProgram.{CodeProgram}
 use Rattle.ns_facets.specs.declared.row.Grants.{Grants}
 use Rattle.ns_world.specs.declared.ending.Ending.{Ending}
-use Rattle.ns_machine_moves.specs.State.{State, ending_of}
-use Rattle.ns_machine_moves.specs.Move.{moves}
+use Rattle.ns_moves.specs.State.{State, ending_of}
+use Rattle.ns_moves.specs.Move.{moves}
 use Rattle.ns_machine_core.specs.declared.state.Core.{Core}
 use Rattle.ns_machine_core.specs.declared.state.Next.{Next}
 use Rattle.ns_machine_core.specs.declared.state.Next.TheVariants as next

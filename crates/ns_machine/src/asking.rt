@@ -4,10 +4,10 @@ ghost use Rattle.std.specs.Prelude.{◌≡◌, ◌↔◌, ◌≤◌, length, Con
 ghost use Rattle.ns_code.specs.Selector.{name_number};
 ghost use Rattle.ns_facets.specs.declared.row.Grants.{Grants};
 ghost use Rattle.ns_machine_alike.specs.Isolated.{ComesToTheSame};
-ghost use Rattle.ns_machine_moves.specs.Beginning.{MayBegin};
-ghost use Rattle.ns_machine_moves.specs.Living.{KeepsLive};
-ghost use Rattle.ns_machine_moves.specs.Starts.{begun};
-ghost use Rattle.ns_machine_moves.specs.State.{world_of};
+ghost use Rattle.ns_moves.specs.Beginning.{MayBegin};
+ghost use Rattle.ns_moves.specs.Living.{KeepsLive};
+ghost use Rattle.ns_moves.specs.Starts.{begun};
+ghost use Rattle.ns_moves.specs.State.{world_of};
 ghost use Rattle.ns_machine_reach.specs.Reached.{StaysInReach};
 ghost use Rattle.ns_machine_report.specs.Ending.{IsLiveEnding};
 ghost use Rattle.ns_machine.specs.Asking.{HasSelector, MayAsk, named};

@@ -1,20 +1,20 @@
 //! What a machine sends by itself, found once.
 
 ghost use Rattle.std.specs.Prelude.{◌≡◌, ◌<◌, length, slice_get};
-ghost use Rattle.ns_machine_moves.specs.Steps.{steps_of, opening_place};
-ghost use Rattle.ns_machine_moves.specs.Steps as moves;
+ghost use Rattle.ns_moves.specs.Steps.{steps_of, opening_place};
+ghost use Rattle.ns_moves.specs.Steps as moves;
 ghost use Rattle.ns_machine_plan.specs.Plan.{IsPlanOf};
 ghost use Rattle.ns_machine_core.specs.Own.{AreOwn};
 ghost use Rattle.ns_machine.specs.Opening as spec;
 ghost use Rattle.ns_machine.specs.Places.{BeginsWithPlaces};
 
-use ns_actions::running::initialiser;
 use ns_code::own::Own;
 use ns_code::program::CodeProgram;
 use ns_machine_core::own::OwnSends;
 use ns_machine_core::places::Places;
 use ns_machine_plan::plan::Plan;
 use ns_machine_plan::step::{NO_PLACE, Step};
+use ns_moves::running::initialiser;
 
 /// The numbers of what a machine of this code, with these places, sends by itself.
 pub fn own_sends(code: &CodeProgram, plan: &Plan, places: &Places) -> OwnSends

@@ -5,12 +5,12 @@ ghost use Rattle.ns_machine_core.specs.Shown.{shown};
 ghost use Rattle.ns_machine.specs.KeptSites as kept;
 ghost use Rattle.ns_machine.specs.Sites.{sites_of};
 
-use ns_actions::site::Site;
 use ns_base::no_memory::NoMemory;
 use ns_code::program::CodeProgram;
 use ns_machine_core::state::{Core, Next};
 use ns_machine_frames::frame::{Frame, KeptSite};
 use ns_machine_freeze::frame::site_of;
+use ns_moves::site::Site;
 use std::alloc::Global;
 
 /// The sends that the frames of a run answer, the innermost first, by where the run goes next. One that has ended has none.

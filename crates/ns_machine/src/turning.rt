@@ -6,9 +6,9 @@ ghost use Rattle.ns_machine.specs.Turning.{RunsOut};
 use ns_code::program::CodeProgram;
 use ns_machine_core::own::OwnSends;
 use ns_machine_core::state::{Core, Next};
-use ns_machine_moves::laws::{ended_runs_stay, moves_go_onward};
 use ns_machine_plan::plan::Plan;
 use ns_machine_turns::turning::turn;
+use ns_moves::move_laws::{ended_runs_stay, moves_go_onward};
 use ns_world::ending::Ending;
 
 /// Moves up to the end of a run, which the limit on steps bounds: no run has one step more.

@@ -4,10 +4,10 @@ ghost use Rattle.std.specs.Prelude.{◌≡◌, ◌≤◌, ◌∷◌, [], length,
 ghost use Rattle.ns_code.specs.declared.own.Own.TheVariants.{PackageUsing};
 ghost use Rattle.ns_world.specs.Starts.{is_receiver, has_class, start_of, class_name_of};
 ghost use Rattle.ns_world.specs.Lawful.{IsLawful, IsLiveValue};
-ghost use Rattle.ns_actions.specs.Start as spec;
-ghost use Rattle.ns_actions.specs.Start.{manifest};
-ghost use Rattle.ns_actions.specs.Sends.{own_sel};
-ghost use Rattle.ns_machine_moves.specs.Steps.{opening_place};
+ghost use Rattle.ns_moves.specs.Start as spec;
+ghost use Rattle.ns_moves.specs.Start.{manifest};
+ghost use Rattle.ns_moves.specs.Sends.{own_sel};
+ghost use Rattle.ns_moves.specs.Steps.{opening_place};
 ghost use Rattle.ns_machine_core.specs.Standing.{HasRooms};
 ghost use Rattle.ns_machine_core.specs.Own.{AreOwn};
 ghost use Rattle.ns_machine.specs.Waiting.{HostSendWaits};

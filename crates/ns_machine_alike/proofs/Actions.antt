@@ -23,12 +23,12 @@ use Rattle.ns_classes.specs.declared.apply.MakeFault.{MakeFault}
 use Rattle.ns_classes.specs.declared.apply.MakeFault.TheVariants.{NotAClass, ChainLimit}
 use Rattle.ns_classes.specs.Apply.{class_fault, class_cell, chain_fault}
 use Rattle.ns_classes.specs.Nested.{kept_in, kept_class, nested_entry}
-use Rattle.ns_actions.specs.Suiting.{is_reference}
-use Rattle.ns_actions.specs.Control.{Progress, in_world, Activation, Exit, FromMethod, FromBody, FromClause, After, Gives, Halts, Enter, Skip, Stop, EnterPart, halts, charged, frame_left}
-use Rattle.ns_actions.specs.Site.{make_fault, error, fault_ending}
-use Rattle.ns_actions.specs.declared.site.Site.{Site}
-use Rattle.ns_actions.specs.Bodies.{no_home, first_locals, opened, has_environment, locals_of, parameters_of, initialiser_of, clause_of}
-use Rattle.ns_actions.specs.Classes.{class_made, mixed, keeping, newly_kept, kept_or, class_over, head, nested, instance, super_selector, factory_selector, declared_part, object_part, part_of, super_part, slot_filled, body_ended}
+use Rattle.ns_moves.specs.Suiting.{is_reference}
+use Rattle.ns_moves.specs.Control.{Progress, in_world, Activation, Exit, FromMethod, FromBody, FromClause, After, Gives, Halts, Enter, Skip, Stop, EnterPart, halts, charged, frame_left}
+use Rattle.ns_moves.specs.Site.{make_fault, error, fault_ending}
+use Rattle.ns_moves.specs.declared.site.Site.{Site}
+use Rattle.ns_moves.specs.Bodies.{no_home, first_locals, opened, has_environment, locals_of, parameters_of, initialiser_of, clause_of}
+use Rattle.ns_moves.specs.Classes.{class_made, mixed, keeping, newly_kept, kept_or, class_over, head, nested, instance, super_selector, factory_selector, declared_part, object_part, part_of, super_part, slot_filled, body_ended}
 use Rattle.ns_machine_alike.specs.Paired.{IsPairing, Homeless, Paired, Partners, Same, AllPaired, NumberPaired, NumbersPaired, EndingPaired, CellPaired, HeapPaired, Abreast, ActivationPaired, ExitPaired, AfterPaired, ControlPaired, PartPaired}
 use Rattle.ns_machine_alike.proofs.Values.{cond_so, all_append, all_nil}
 use Rattle.ns_machine_alike.proofs.Charging.{faulted, frame_charged, left_abreast}

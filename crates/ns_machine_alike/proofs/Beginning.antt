@@ -15,8 +15,8 @@ use Rattle.ns_world.specs.Lawful.{IsLiveValue}
 use Rattle.ns_world.specs.Alike.{Renaming, AlikeValue, AlikeValues, AlikeCell, Alike}
 use Rattle.ns_machine_reach.specs.Within.{In, AllIn}
 use Rattle.ns_machine_reach.specs.Reached.{InReach}
-use Rattle.ns_machine_moves.specs.State.{State, is_idle, world_of}
-use Rattle.ns_machine_moves.specs.Beginning.{MayBegin}
+use Rattle.ns_moves.specs.State.{State, is_idle, world_of}
+use Rattle.ns_moves.specs.Beginning.{MayBegin}
 use Rattle.ns_machine_alike.proofs.There.{roots_reached}
 use Rattle.ns_machine_reach.specs.laws.Holding.{all_in_from}
 

@@ -21,12 +21,12 @@ use Rattle.ns_kcode.specs.declared.state.KAction.{KAction}
 use Rattle.ns_kcode.specs.declared.state.KAction.TheVariants as action
 use Rattle.ns_kcode.specs.Next as kcode
 use Rattle.ns_kcode.specs.Rows.{beginning}
-use Rattle.ns_actions.specs.declared.site.Site.{Site}
-use Rattle.ns_actions.specs.Site.{error}
-use Rattle.ns_actions.specs.Suiting.{is_reference}
-use Rattle.ns_actions.specs.Control.{Progress, Activation, FromBody, Gives, Halts, Enter, Evaluate, Begin, Waits, Finishes, halts, fails, charged}
-use Rattle.ns_actions.specs.Bodies.{parameters_of, opened}
-use Rattle.ns_actions.specs.Blocks.{new_cell, new_block, new_text, new_array, is_block_shape, is_block, block_body_in, block_arity, block_entered, evaluated, value_with_arguments, is_integer, has_arguments, turns_of, method_begun, listed, waiting, item_at, acted, method_next, taken}
+use Rattle.ns_moves.specs.declared.site.Site.{Site}
+use Rattle.ns_moves.specs.Site.{error}
+use Rattle.ns_moves.specs.Suiting.{is_reference}
+use Rattle.ns_moves.specs.Control.{Progress, Activation, FromBody, Gives, Halts, Enter, Evaluate, Begin, Waits, Finishes, halts, fails, charged}
+use Rattle.ns_moves.specs.Bodies.{parameters_of, opened}
+use Rattle.ns_moves.specs.Blocks.{new_cell, new_block, new_text, new_array, is_block_shape, is_block, block_body_in, block_arity, block_entered, evaluated, value_with_arguments, is_integer, has_arguments, turns_of, method_begun, listed, waiting, item_at, acted, method_next, taken}
 use Rattle.ns_machine_alike.specs.Paired.{IsPairing, Paired, Partners, Same, AllPaired, MaybePaired, EndingPaired, CellPaired, HeapPaired, KStatePaired, Abreast, ActivationPaired, AfterPaired, ControlPaired, WaitingPaired}
 use Rattle.ns_machine_alike.proofs.Values.{cond_so, at_index, same_length}
 use Rattle.ns_machine_alike.proofs.Charging.{step_charged, frame_charged, left_abreast}

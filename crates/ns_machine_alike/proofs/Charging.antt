@@ -14,9 +14,9 @@ use Rattle.ns_world.specs.Cell.{Cell, FacetCell, cell_size}
 use Rattle.ns_world.specs.Heap.{heap_size, find_cell}
 use Rattle.ns_world.specs.World.{World, made, stepped, entered, left, printed}
 use Rattle.ns_facets.specs.declared.board.Board.{Board as BoardValue}
-use Rattle.ns_actions.specs.declared.site.Site.{Site}
-use Rattle.ns_actions.specs.Site.{fault_ending}
-use Rattle.ns_actions.specs.Control.{Progress, in_world, charged}
+use Rattle.ns_moves.specs.declared.site.Site.{Site}
+use Rattle.ns_moves.specs.Site.{fault_ending}
+use Rattle.ns_moves.specs.Control.{Progress, in_world, charged}
 use Rattle.ns_machine_alike.specs.Paired.{IsPairing, EndingPaired, HeapPaired, Abreast}
 
 -- ---- charges

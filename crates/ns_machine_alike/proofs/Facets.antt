@@ -28,10 +28,10 @@ use Rattle.ns_facets.specs.Facet as facets
 use Rattle.ns_facets.specs.Board as boards
 use Rattle.ns_facets.specs.Console as console
 use Rattle.ns_facets.specs.Platform.{cell_value, top_class, granted}
-use Rattle.ns_actions.specs.declared.site.Site.{Site}
-use Rattle.ns_actions.specs.Suiting.{facet_in, facet_at, facet_of_row, is_reference}
-use Rattle.ns_actions.specs.Control.{Progress}
-use Rattle.ns_actions.specs.Kernel as kernel
+use Rattle.ns_moves.specs.declared.site.Site.{Site}
+use Rattle.ns_moves.specs.Suiting.{facet_in, facet_at, facet_of_row, is_reference}
+use Rattle.ns_moves.specs.Control.{Progress}
+use Rattle.ns_moves.specs.Kernel as kernel
 use Rattle.ns_machine_reach.specs.Within.{IsGranted}
 use Rattle.ns_machine_alike.specs.Paired.{IsPairing, Paired, Partners, Same, AllPaired, NumberPaired, FacetPaired, CellPaired, MaybeCellPaired, Abreast, ControlPaired}
 use Rattle.ns_machine_alike.proofs.Values.{cond_so, at_index}

@@ -38,9 +38,9 @@ use Rattle.ns_find.specs.Members.{Member, Numbered, is_named, allowed, search, s
 use Rattle.ns_world.specs.KernelTable.{Numbered as NumberedRow, rows_of}
 use Rattle.ns_find.specs.Rows as rows
 use Rattle.ns_find.specs.Find.{members_from, found_from, found_private, super_start}
-use Rattle.ns_actions.specs.Suiting.{is_reference}
-use Rattle.ns_actions.specs.Control.{Progress}
-use Rattle.ns_actions.specs.Sends.{site_at}
+use Rattle.ns_moves.specs.Suiting.{is_reference}
+use Rattle.ns_moves.specs.Control.{Progress}
+use Rattle.ns_moves.specs.Sends.{site_at}
 use Rattle.ns_machine_alike.specs.Paired.{IsPairing, Paired, Partners, Same, NumberPaired, NumbersPaired, FacetPaired, MemberPaired, CellPaired, HeapPaired}
 use Rattle.ns_machine_alike.proofs.Values.{cond_so}
 use Rattle.ns_machine_alike.proofs.Keeping.{same_number}

@@ -12,10 +12,10 @@ use Rattle.ns_kint.specs.Division.{floored_quotient, floored_remainder}
 use Rattle.ns_world.specs.declared.kernel_parts.IntRow.{IntRow}
 use Rattle.ns_world.specs.declared.kernel_parts.IntRow.TheVariants as int
 use Rattle.ns_kdata.specs.Arguments.{argument, number_of}
-use Rattle.ns_actions.specs.declared.site.Site.{Site}
-use Rattle.ns_actions.specs.Site.{fault_ending}
-use Rattle.ns_actions.specs.Control.{Progress}
-use Rattle.ns_actions.specs.Kernel as kernel
+use Rattle.ns_moves.specs.declared.site.Site.{Site}
+use Rattle.ns_moves.specs.Site.{fault_ending}
+use Rattle.ns_moves.specs.Control.{Progress}
+use Rattle.ns_moves.specs.Kernel as kernel
 use Rattle.ns_machine_alike.specs.Paired.{IsPairing, Paired, Partners, Same, AllPaired, EndingPaired, Abreast, ControlPaired}
 use Rattle.ns_machine_alike.proofs.Values.{cond_so, at_index}
 use Rattle.ns_machine_alike.proofs.Charging.{faulted}

@@ -18,8 +18,8 @@ use Rattle.ns_world.specs.World.{World, made, written}
 use Rattle.ns_world.specs.laws.Changing.{found_old, set_here, word_plainly, writing_leaves}
 use Rattle.ns_world.specs.laws.Chains.{found_below, size_above}
 use Rattle.ns_world.specs.laws.Firsts.{facets_after_word, tops_after_word}
-use Rattle.ns_actions.specs.Suiting.{is_reference}
-use Rattle.ns_actions.specs.Control.{Progress, in_world, charged}
+use Rattle.ns_moves.specs.Suiting.{is_reference}
+use Rattle.ns_moves.specs.Control.{Progress, in_world, charged}
 use Rattle.ns_machine_alike.specs.Paired.{IsPairing, Paired, Partners, Same, NumberPaired, NumbersPaired, FacetPaired, CellPaired, MaybeCellPaired, HeapPaired, Abreast}
 use Rattle.ns_machine_alike.proofs.Values.{cond_so, same_size, same_top, same_facet, word_paired}
 use Rattle.ns_machine_alike.proofs.Charging.{charged_so, some_if, made_is, made_fits, same_bool, same_le}

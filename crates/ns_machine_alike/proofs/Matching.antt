@@ -18,12 +18,12 @@ use Rattle.ns_world.specs.Alike.{Renaming, AlikeValue, AlikeValues, AlikeClass, 
 use Rattle.ns_world.specs.laws.Chains.{linked, both_of}
 use Rattle.ns_world.specs.laws.Firsts.{found_past}
 use Rattle.ns_kdata.specs.Arguments.{CellIsThere}
-use Rattle.ns_actions.specs.Suiting.{is_reference}
-use Rattle.ns_actions.specs.Bodies.{no_home}
-use Rattle.ns_actions.specs.Control.{Progress}
-use Rattle.ns_machine_moves.specs.Starts.{begun}
-use Rattle.ns_machine_moves.specs.ValidFrames.{is_in_method, has_block_home}
-use Rattle.ns_machine_moves.specs.Valid.{blocks_have_homes}
+use Rattle.ns_moves.specs.Suiting.{is_reference}
+use Rattle.ns_moves.specs.Bodies.{no_home}
+use Rattle.ns_moves.specs.Control.{Progress}
+use Rattle.ns_moves.specs.Starts.{begun}
+use Rattle.ns_moves.specs.ValidFrames.{is_in_method, has_block_home}
+use Rattle.ns_moves.specs.Valid.{blocks_have_homes}
 use Rattle.ns_machine_reach.specs.Within.{IsGranted, In, AllIn, NumberIn, CellIn}
 use Rattle.ns_machine_reach.specs.Reached.{InReach}
 use Rattle.ns_machine_alike.specs.Paired.{IsPairing, HomePaired, EndedBefore, Homeless, Paired, Partners, Same, AllPaired, NumberPaired, NumbersPaired, FacetPaired, CellPaired, MaybeCellPaired, HeapPaired}

@@ -31,10 +31,10 @@ use Rattle.ns_mirror.specs.Looking as looking
 use Rattle.ns_mirror.specs.Slots as slots
 use Rattle.ns_mirror.specs.Selectors as selectors
 use Rattle.ns_mirror.specs.Naming as naming
-use Rattle.ns_actions.specs.declared.site.Site.{Site}
-use Rattle.ns_actions.specs.Suiting.{is_reference}
-use Rattle.ns_actions.specs.Control.{Progress, in_world}
-use Rattle.ns_actions.specs.Kernel as kernel
+use Rattle.ns_moves.specs.declared.site.Site.{Site}
+use Rattle.ns_moves.specs.Suiting.{is_reference}
+use Rattle.ns_moves.specs.Control.{Progress, in_world}
+use Rattle.ns_moves.specs.Kernel as kernel
 use Rattle.ns_machine_alike.specs.Paired.{IsPairing, Paired, Partners, Same, AllPaired, NumbersPaired, HeapPaired, Abreast, ControlPaired}
 use Rattle.ns_machine_alike.proofs.Values.{cond_so, all_append, at_index, same_length}
 use Rattle.ns_machine_alike.proofs.Keeping.{same_number}

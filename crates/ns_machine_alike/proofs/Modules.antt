@@ -21,13 +21,13 @@ use Rattle.ns_world.specs.Lawful.{HasEnclosing, ClassIsLawful, IsLawful}
 use Rattle.ns_world.specs.Alike.{Renaming}
 use Rattle.ns_world.specs.laws.Changing.{found_new}
 use Rattle.ns_world.specs.laws.Chains.{both_of}
-use Rattle.ns_actions.specs.Start.{facet_if, facets_of, top_if, tops_of, standing_cells}
-use Rattle.ns_actions.specs.Control.{Progress}
-use Rattle.ns_actions.specs.Sends.{site_at}
-use Rattle.ns_machine_moves.specs.State.{Sending, Hosted, State, Pends, is_idle, progress_of, world_of}
-use Rattle.ns_machine_moves.specs.Move.{moves}
-use Rattle.ns_machine_moves.specs.Starts.{begun}
-use Rattle.ns_machine_moves.specs.Valid.{BeginsWith}
+use Rattle.ns_moves.specs.Start.{facet_if, facets_of, top_if, tops_of, standing_cells}
+use Rattle.ns_moves.specs.Control.{Progress}
+use Rattle.ns_moves.specs.Sends.{site_at}
+use Rattle.ns_moves.specs.State.{Sending, Hosted, State, Pends, is_idle, progress_of, world_of}
+use Rattle.ns_moves.specs.Move.{moves}
+use Rattle.ns_moves.specs.Starts.{begun}
+use Rattle.ns_moves.specs.Valid.{BeginsWith}
 use Rattle.ns_machine_alike.specs.Isolated.{StatesAlike, SendsAreAlike}
 use Rattle.ns_machine_alike.specs.Premises.{ArePlain}
 use Rattle.ns_machine_alike.specs.Modules.{BudgetsAlike, ModulesAreAlike, ModulesComeToTheSame, TouchesOnly, ModulesTouchNothing}

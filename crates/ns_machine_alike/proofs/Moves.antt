@@ -16,23 +16,23 @@ use Rattle.ns_facets.specs.declared.row.Grants.{Grants}
 use Rattle.ns_world.specs.declared.kernel_parts.KMethod.{KMethod}
 use Rattle.ns_kdata.specs.Arguments.{items_of}
 use Rattle.ns_find.specs.declared.found.Sending.TheVariants.{Inner}
-use Rattle.ns_actions.specs.declared.site.Site.{Site}
-use Rattle.ns_actions.specs.Site.{error}
-use Rattle.ns_actions.specs.Control.{Progress, Activation, Control, Now, Enter, Evaluate, Begin, Perform, PartControl, Skip, Stop, EnterPart, Waiting, Waits, Finishes, charged}
-use Rattle.ns_actions.specs.Bodies.{no_home, enclosing, local_at}
-use Rattle.ns_actions.specs.Blocks.{new_text, new_block, new_array, evaluated, method_next}
-use Rattle.ns_actions.specs.Classes.{super_part, slot_filled}
-use Rattle.ns_actions.specs.Sends.{Target, To, ToPrivate, ToSuper, to_value, sent, site_at}
-use Rattle.ns_machine_moves.specs.State.{Leaving, Frame, Running, Looping, Pending, Sending, Performing, Evaluating, Phase, Hosted, State, Going, Pends, Ended, Stuck}
-use Rattle.ns_machine_moves.specs.Steps.{PlacedInstr, steps_of, steps_from, literal}
-use Rattle.ns_machine_moves.specs.Operands.{on_top}
-use Rattle.ns_machine_moves.specs.Returns.{settled, returned, returned_home}
-use Rattle.ns_machine_moves.specs.Arrivals.{arrived, part_arrived, acted_on}
-use Rattle.ns_machine_moves.specs.Jumps.{goes_back, jumped, takes_jump, jumped_on}
-use Rattle.ns_machine_moves.specs.Instructions.{on_with, stored_local, executed}
-use Rattle.ns_machine_moves.specs.Move.{sent_on, resumed, move}
-use Rattle.ns_machine_moves.specs.Valid.{WorldIsValid, Valid}
-use Rattle.ns_actions.specs.Start.{standing_cells}
+use Rattle.ns_moves.specs.declared.site.Site.{Site}
+use Rattle.ns_moves.specs.Site.{error}
+use Rattle.ns_moves.specs.Control.{Progress, Activation, Control, Now, Enter, Evaluate, Begin, Perform, PartControl, Skip, Stop, EnterPart, Waiting, Waits, Finishes, charged}
+use Rattle.ns_moves.specs.Bodies.{no_home, enclosing, local_at}
+use Rattle.ns_moves.specs.Blocks.{new_text, new_block, new_array, evaluated, method_next}
+use Rattle.ns_moves.specs.Classes.{super_part, slot_filled}
+use Rattle.ns_moves.specs.Sends.{Target, To, ToPrivate, ToSuper, to_value, sent, site_at}
+use Rattle.ns_moves.specs.State.{Leaving, Frame, Running, Looping, Pending, Sending, Performing, Evaluating, Phase, Hosted, State, Going, Pends, Ended, Stuck}
+use Rattle.ns_moves.specs.Steps.{PlacedInstr, steps_of, steps_from, literal}
+use Rattle.ns_moves.specs.Operands.{on_top}
+use Rattle.ns_moves.specs.Returns.{settled, returned, returned_home}
+use Rattle.ns_moves.specs.Arrivals.{arrived, part_arrived, acted_on}
+use Rattle.ns_moves.specs.Jumps.{goes_back, jumped, takes_jump, jumped_on}
+use Rattle.ns_moves.specs.Instructions.{on_with, stored_local, executed}
+use Rattle.ns_moves.specs.Move.{sent_on, resumed, move}
+use Rattle.ns_moves.specs.Valid.{WorldIsValid, Valid}
+use Rattle.ns_moves.specs.Start.{standing_cells}
 use Rattle.ns_machine_alike.specs.Paired.{IsPairing, Paired, Partners, Same, AllPaired, Abreast, ActivationPaired, ControlPaired, PartPaired, WaitingPaired, LeavingPaired, LeavingHome, FramesPaired, PendingPaired, PhasePaired, StatePaired}
 use Rattle.ns_machine_alike.proofs.Values.{cond_so}
 use Rattle.ns_machine_alike.proofs.Charging.{step_charged}

@@ -11,10 +11,10 @@ use Rattle.ns_world.specs.declared.cell.FacetKind.TheVariants.{Manifest}
 use Rattle.ns_world.specs.Cell.{FacetCell}
 use Rattle.ns_world.specs.Heap.{Heap, find_cell, shape_at, is_class, word_at, cell_number}
 use Rattle.ns_world.specs.World.{written}
-use Rattle.ns_actions.specs.Suiting.{is_reference}
-use Rattle.ns_actions.specs.Control.{Progress, in_world, Activation}
-use Rattle.ns_actions.specs.Bodies.{Place, enclosing_place, lexical, enclosing, parent_in, environment_out, is_beside, has_environment, environment_at, local_at, locals_with, local_stored}
-use Rattle.ns_machine_moves.specs.Operands.{on_top, taken_off, picked}
+use Rattle.ns_moves.specs.Suiting.{is_reference}
+use Rattle.ns_moves.specs.Control.{Progress, in_world, Activation}
+use Rattle.ns_moves.specs.Bodies.{Place, enclosing_place, lexical, enclosing, parent_in, environment_out, is_beside, has_environment, environment_at, local_at, locals_with, local_stored}
+use Rattle.ns_moves.specs.Operands.{on_top, taken_off, picked}
 use Rattle.ns_machine_alike.specs.Paired.{IsPairing, Paired, Partners, Same, AllPaired, HeapPaired, Abreast, ActivationPaired}
 use Rattle.ns_machine_alike.proofs.Values.{cond_so, at_index, all_set}
 use Rattle.ns_machine_alike.proofs.Keeping.{manifest_unwritten, written_abreast}

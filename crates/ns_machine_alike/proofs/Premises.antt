@@ -9,9 +9,9 @@ use Rattle.ns_world.specs.declared.value.Value.TheVariants.{Nil, True, False, In
 use Rattle.ns_world.specs.Heap.{Heap, heap_size, find_cell, no_class}
 use Rattle.ns_world.specs.Reach.{IsInReach, referred, all_referred}
 use Rattle.ns_world.specs.Alike.{Renaming, AlikeValue, AlikeValues}
-use Rattle.ns_actions.specs.Suiting.{is_reference}
-use Rattle.ns_machine_moves.specs.State.{State, is_idle, progress_of, world_of}
-use Rattle.ns_machine_moves.specs.Valid.{Valid}
+use Rattle.ns_moves.specs.Suiting.{is_reference}
+use Rattle.ns_moves.specs.State.{State, is_idle, progress_of, world_of}
+use Rattle.ns_moves.specs.Valid.{Valid}
 use Rattle.ns_machine_reach.specs.Within.{In, AllIn}
 use Rattle.ns_machine_reach.specs.laws.Holding.{each_has, all_in_from}
 use Rattle.ns_machine_alike.specs.Paired.{IsPairing, Paired, Partners, Same, AllPaired, HeapPaired}

@@ -9,8 +9,8 @@ use Rattle.ns_world.specs.Cell.{Cell, ObjectCell, ClassCell, BlockCell, Environm
 use Rattle.ns_world.specs.Heap.{Heap, heap_size, find_cell, no_class}
 use Rattle.ns_world.specs.Seek.{first_such, is_facet, is_top}
 use Rattle.ns_world.specs.Reach.{IsInReach, IsRoot, IsHeld, held, all_referred}
-use Rattle.ns_actions.specs.Suiting.{is_reference}
-use Rattle.ns_actions.specs.Control.{Progress}
+use Rattle.ns_moves.specs.Suiting.{is_reference}
+use Rattle.ns_moves.specs.Control.{Progress}
 use Rattle.ns_machine_reach.specs.Within.{In, AllIn, NumberIn, CellIn}
 use Rattle.ns_machine_reach.specs.laws.Holding.{each_has, has_each, all_in_from, from_all_in, cell_from, from_cell}
 use Rattle.ns_machine_alike.specs.Paired.{IsPairing, Paired, Partners, Same, AllPaired, NumberPaired, FacetPaired, CellPaired, MaybeCellPaired, HeapPaired}

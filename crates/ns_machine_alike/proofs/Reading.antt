@@ -13,8 +13,8 @@ use Rattle.ns_world.specs.Heap.{Heap, find_cell, chain_of, shape_at, words_at, w
 use Rattle.ns_world.specs.Starts.{declaration_in}
 use Rattle.ns_world.specs.Layout.{declaration_of, entries_of, entries_along, layout_of, entries_above, entry_word}
 use Rattle.ns_kdata.specs.Arguments.{items_of, array_items, shape_of_value, bytes_of}
-use Rattle.ns_actions.specs.Suiting.{is_reference}
-use Rattle.ns_actions.specs.Control.{Progress}
+use Rattle.ns_moves.specs.Suiting.{is_reference}
+use Rattle.ns_moves.specs.Control.{Progress}
 use Rattle.ns_machine_alike.specs.Paired.{IsPairing, HomePaired, Paired, Partners, Same, AllPaired, NumbersPaired, CellPaired, MaybeCellPaired, HeapPaired}
 use Rattle.ns_machine_alike.proofs.Values.{words_paired, at_index, same_length}
 

@@ -6,13 +6,13 @@ use Rattle.ns_code.specs.declared.program.CodeProgram.{CodeProgram}
 use Rattle.ns_world.specs.declared.value.Value.{Value}
 use Rattle.ns_world.specs.declared.ending.Kind.TheVariants.{DeadReturn}
 use Rattle.ns_world.specs.laws.Chains.{both_of}
-use Rattle.ns_actions.specs.Site.{error}
-use Rattle.ns_actions.specs.Control.{Progress, Activation, FromMethod, FromBody, FromClause, After, Gives, Halts, frame_left}
-use Rattle.ns_actions.specs.Bodies.{no_home}
-use Rattle.ns_actions.specs.Classes.{body_ended}
-use Rattle.ns_machine_moves.specs.State.{Leaving, Loud, Silent, Frame, Running, Looping, Hosted, Ended}
-use Rattle.ns_machine_moves.specs.Returns.{delivered, settled, returned, ends_at, is_home, has_home, unwound, returned_home}
-use Rattle.ns_machine_moves.specs.ValidFrames.{homes_fall}
+use Rattle.ns_moves.specs.Site.{error}
+use Rattle.ns_moves.specs.Control.{Progress, Activation, FromMethod, FromBody, FromClause, After, Gives, Halts, frame_left}
+use Rattle.ns_moves.specs.Bodies.{no_home}
+use Rattle.ns_moves.specs.Classes.{body_ended}
+use Rattle.ns_moves.specs.State.{Leaving, Loud, Silent, Frame, Running, Looping, Hosted, Ended}
+use Rattle.ns_moves.specs.Returns.{delivered, settled, returned, ends_at, is_home, has_home, unwound, returned_home}
+use Rattle.ns_moves.specs.ValidFrames.{homes_fall}
 use Rattle.ns_machine_alike.specs.Paired.{IsPairing, BeganAlike, HomePaired, Began, EndedBefore, Homeless, Paired, Abreast, ActivationPaired, AfterPaired, LeavingPaired, LeavingHome, FramePaired, FramesPaired, StatePaired}
 use Rattle.ns_machine_alike.proofs.Values.{cond_so}
 use Rattle.ns_machine_alike.proofs.Charging.{same_bool, left_abreast}

@@ -25,10 +25,10 @@ use Rattle.ns_kdata.specs.Texts as texts
 use Rattle.ns_kdata.specs.Datum.{row_outcome, datum}
 use Rattle.ns_world.specs.declared.kernel_parts.DataRow.{DataRow}
 use Rattle.ns_world.specs.declared.kernel_parts.DataRow.TheVariants as row
-use Rattle.ns_actions.specs.declared.site.Site.{Site}
-use Rattle.ns_actions.specs.Suiting.{is_reference}
-use Rattle.ns_actions.specs.Control.{Progress, in_world}
-use Rattle.ns_actions.specs.Kernel as kernel
+use Rattle.ns_moves.specs.declared.site.Site.{Site}
+use Rattle.ns_moves.specs.Suiting.{is_reference}
+use Rattle.ns_moves.specs.Control.{Progress, in_world}
+use Rattle.ns_moves.specs.Kernel as kernel
 use Rattle.ns_machine_alike.specs.Paired.{IsPairing, Paired, Partners, Same, AllPaired, CellPaired, Abreast, ControlPaired}
 use Rattle.ns_machine_alike.proofs.Values.{cond_so, at_index, all_nil, same_length}
 use Rattle.ns_machine_alike.proofs.Keeping.{NoBoard, same_number, same_made, made_abreast, written_abreast}

@@ -25,15 +25,15 @@ use Rattle.ns_find.specs.Find.{found_from, found_private, super_start}
 use Rattle.ns_classes.specs.Nested.{kept_class}
 use Rattle.ns_world.specs.declared.kernel_row.Row.{Row}
 use Rattle.ns_world.specs.declared.kernel_row.Row.TheVariants as row
-use Rattle.ns_actions.specs.declared.site.Site.{Site}
-use Rattle.ns_actions.specs.Control.{Progress, in_world, Activation, FromMethod, Control, Enter, gives, halts, charged}
-use Rattle.ns_actions.specs.Bodies.{opened, enclosing, side_at, side_of_body}
-use Rattle.ns_actions.specs.Classes.{instance}
+use Rattle.ns_moves.specs.declared.site.Site.{Site}
+use Rattle.ns_moves.specs.Control.{Progress, in_world, Activation, FromMethod, Control, Enter, gives, halts, charged}
+use Rattle.ns_moves.specs.Bodies.{opened, enclosing, side_at, side_of_body}
+use Rattle.ns_moves.specs.Classes.{instance}
 use Rattle.ns_world.specs.KernelTable.{row_at}
-use Rattle.ns_actions.specs.Kernel as kernel
-use Rattle.ns_actions.specs.Suiting.{RowSuits, FoundSuits, is_reference}
-use Rattle.ns_actions.specs.Blocks.{block_arity}
-use Rattle.ns_actions.specs.Sends.{Target, To, ToPrivate, ToSuper, receiver_of, found_at, site_at, Arguments, Listed, Wrapped, given, first_of, one_more, method_entered, factory_entered, set, nested_in, row_sent, done_with, message_sel, not_found, answered_by, sent, sent_from}
+use Rattle.ns_moves.specs.Kernel as kernel
+use Rattle.ns_moves.specs.Suiting.{RowSuits, FoundSuits, is_reference}
+use Rattle.ns_moves.specs.Blocks.{block_arity}
+use Rattle.ns_moves.specs.Sends.{Target, To, ToPrivate, ToSuper, receiver_of, found_at, site_at, Arguments, Listed, Wrapped, given, first_of, one_more, method_entered, factory_entered, set, nested_in, row_sent, done_with, message_sel, not_found, answered_by, sent, sent_from}
 use Rattle.ns_machine_alike.specs.Paired.{IsPairing, BeganAlike, Began, Paired, Partners, Same, AllPaired, MemberPaired, Abreast, ActivationPaired, ControlPaired}
 use Rattle.ns_machine_alike.proofs.Values.{at_index}
 use Rattle.ns_machine_alike.proofs.Charging.{step_charged, frame_charged, begun_abreast}

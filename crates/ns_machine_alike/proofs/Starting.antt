@@ -14,13 +14,13 @@ use Rattle.ns_world.specs.Reach.{all_referred}
 use Rattle.ns_world.specs.Lawful.{IsLiveValue}
 use Rattle.ns_world.specs.Alike.{Renaming, AlikeValue, AlikeValues, Alike}
 use Rattle.ns_world.specs.laws.Chains.{found_below}
-use Rattle.ns_actions.specs.Control.{Progress}
-use Rattle.ns_actions.specs.Start.{standing_cells}
-use Rattle.ns_actions.specs.Sends.{site_at}
-use Rattle.ns_machine_moves.specs.State.{Sending, Start, First, Second, Hosted, State, Unbegun, Going, Pends, Ended, Stuck, is_idle, progress_of, world_of}
-use Rattle.ns_machine_moves.specs.Starts.{begun}
-use Rattle.ns_machine_moves.specs.Valid.{BeginsWith, WorldIsValid, Valid}
-use Rattle.ns_machine_moves.specs.Beginning.{MayBegin}
+use Rattle.ns_moves.specs.Control.{Progress}
+use Rattle.ns_moves.specs.Start.{standing_cells}
+use Rattle.ns_moves.specs.Sends.{site_at}
+use Rattle.ns_moves.specs.State.{Sending, Start, First, Second, Hosted, State, Unbegun, Going, Pends, Ended, Stuck, is_idle, progress_of, world_of}
+use Rattle.ns_moves.specs.Starts.{begun}
+use Rattle.ns_moves.specs.Valid.{BeginsWith, WorldIsValid, Valid}
+use Rattle.ns_moves.specs.Beginning.{MayBegin}
 use Rattle.ns_machine_reach.specs.Within.{In, AllIn}
 use Rattle.ns_machine_reach.specs.Reached.{InReach}
 use Rattle.ns_machine_reach.specs.laws.Holding.{all_in_from}

@@ -21,21 +21,21 @@ use Rattle.ns_world.specs.World.{World}
 use Rattle.ns_world.specs.Lawful.{IsLawful}
 use Rattle.ns_world.specs.Alike.{Renaming, AlikeValue, AlikeValues, AlikeClass, AlikeNumber, AlikeCell, AlikeHeld, AlikePairs, Alike}
 use Rattle.ns_kdata.specs.Arguments.{CellIsThere}
-use Rattle.ns_actions.specs.Suiting.{is_reference}
-use Rattle.ns_actions.specs.Control.{Progress, Activation}
-use Rattle.ns_actions.specs.Bodies.{enclosing}
-use Rattle.ns_actions.specs.Lawful.{FitsActivation, declaration_at}
-use Rattle.ns_actions.specs.Suits.{IsEnclosingPlace}
-use Rattle.ns_actions.specs.Start.{standing_cells}
-use Rattle.ns_machine_moves.specs.State.{Leaving, Running, Looping, Phase, Hosted, State, Unbegun, Going, Pends, Ended, Stuck, progress_of, world_of, ending_of}
-use Rattle.ns_machine_moves.specs.Move.{move, moves}
-use Rattle.ns_machine_moves.specs.Turn.{is_still}
-use Rattle.ns_machine_moves.specs.Starts.{begun}
-use Rattle.ns_machine_moves.specs.Standing.{ValidFindsAsked, MovesKeepValid}
-use Rattle.ns_machine_moves.specs.Stated.{MovesAdd, StaysStill}
-use Rattle.ns_machine_moves.specs.WorldAsks.{InstrAsks, FindsAsked}
-use Rattle.ns_machine_moves.specs.Beginning.{HostKeepsValid}
-use Rattle.ns_machine_moves.specs.Valid.{WorldIsValid, EndingIsValid, EndIsValid, Valid}
+use Rattle.ns_moves.specs.Suiting.{is_reference}
+use Rattle.ns_moves.specs.Control.{Progress, Activation}
+use Rattle.ns_moves.specs.Bodies.{enclosing}
+use Rattle.ns_moves.specs.Lawful.{FitsActivation, declaration_at}
+use Rattle.ns_moves.specs.Suits.{IsEnclosingPlace}
+use Rattle.ns_moves.specs.Start.{standing_cells}
+use Rattle.ns_moves.specs.State.{Leaving, Running, Looping, Phase, Hosted, State, Unbegun, Going, Pends, Ended, Stuck, progress_of, world_of, ending_of}
+use Rattle.ns_moves.specs.Move.{move, moves}
+use Rattle.ns_moves.specs.Turn.{is_still}
+use Rattle.ns_moves.specs.Starts.{begun}
+use Rattle.ns_moves.specs.Standing.{ValidFindsAsked, MovesKeepValid}
+use Rattle.ns_moves.specs.StatedMoves.{MovesAdd, StaysStill}
+use Rattle.ns_moves.specs.WorldAsks.{InstrAsks, FindsAsked}
+use Rattle.ns_moves.specs.Beginning.{HostKeepsValid}
+use Rattle.ns_moves.specs.Valid.{WorldIsValid, EndingIsValid, EndIsValid, Valid}
 use Rattle.ns_machine_reach.specs.Within.{IsGranted, In, AllIn}
 use Rattle.ns_machine_reach.specs.Reached.{InReach}
 use Rattle.ns_machine_alike.specs.Paired.{IsPairing, Paired, Partners, Same, AllPaired, NumberPaired, FacetPaired, CellPaired, EndingPaired, PhasePaired, Abreast, StatePaired}

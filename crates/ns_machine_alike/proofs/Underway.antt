@@ -7,11 +7,11 @@ use Rattle.ns_world.specs.declared.value.Value.{Value}
 use Rattle.ns_world.specs.declared.ending.Ending.{Ending}
 use Rattle.ns_world.specs.declared.ending.Ending.TheVariants.{Done, Error, Limit}
 use Rattle.ns_world.specs.Alike.{Renaming, Alike}
-use Rattle.ns_machine_moves.specs.State.{State, Unbegun, Going, Pends, Ended, Stuck, world_of, ending_of}
-use Rattle.ns_machine_moves.specs.Move.{move, moves}
-use Rattle.ns_machine_moves.specs.Turn.{is_step_limit, ends_with_steps, is_still, was_charged, charges, one_if, charged_in, Turns}
-use Rattle.ns_machine_moves.specs.Starts.{begun}
-use Rattle.ns_machine_moves.specs.Stated.{MovesAdd, TurnsLeaveOne}
+use Rattle.ns_moves.specs.State.{State, Unbegun, Going, Pends, Ended, Stuck, world_of, ending_of}
+use Rattle.ns_moves.specs.Move.{move, moves}
+use Rattle.ns_moves.specs.Turn.{is_step_limit, ends_with_steps, is_still, was_charged, charges, one_if, charged_in, Turns}
+use Rattle.ns_moves.specs.Starts.{begun}
+use Rattle.ns_moves.specs.StatedMoves.{MovesAdd, TurnsLeaveOne}
 use Rattle.ns_machine_alike.specs.Renamed.{renamed_on}
 use Rattle.ns_machine_alike.specs.Isolated.{MaybeEndingAlike, RunsAlike, SendsAreAlike, RenamingsGoOn}
 use Rattle.ns_machine_alike.specs.Underway.{TurnsLead, SendIsUnderway, TurnsAreAlike, TurnsComeToTheSame, TurnsGoOnAlike}

@@ -8,7 +8,7 @@ use Rattle.ns_world.specs.declared.cell.FacetKind.{FacetKind}
 use Rattle.ns_world.specs.Cell.{Cell, ObjectCell, ClassCell, BlockCell, EnvironmentCell, ArrayCell, TextCell, FacetCell, MirrorCell, MessageCell, cell_size, cell_words, with_word, text_words}
 use Rattle.ns_world.specs.Heap.{Heap}
 use Rattle.ns_world.specs.Seek.{is_facet, is_top, is_nil}
-use Rattle.ns_actions.specs.Control.{Progress}
+use Rattle.ns_moves.specs.Control.{Progress}
 use Rattle.ns_machine_alike.specs.Paired.{Paired, Partners, Same, AllPaired, CellPaired}
 
 -- ---- tests

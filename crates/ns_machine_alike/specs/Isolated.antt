@@ -14,12 +14,12 @@ use Rattle.ns_world.specs.Reach.{IsInReach, all_referred}
 use Rattle.ns_world.specs.World.{World}
 use Rattle.ns_world.specs.Alike.{Renaming, AlikeValue, Alike}
 use Rattle.ns_machine_alike.specs.Renamed.{renamed_on}
-use Rattle.ns_machine_moves.specs.State.{State, Unbegun, Going, Pends, Ended, Stuck, is_idle, progress_of, world_of, ending_of}
-use Rattle.ns_machine_moves.specs.Move.{moves}
-use Rattle.ns_machine_moves.specs.Turn.{is_still}
-use Rattle.ns_machine_moves.specs.Starts.{begun}
-use Rattle.ns_machine_moves.specs.Valid.{Valid}
-use Rattle.ns_machine_moves.specs.Beginning.{MayBegin}
+use Rattle.ns_moves.specs.State.{State, Unbegun, Going, Pends, Ended, Stuck, is_idle, progress_of, world_of, ending_of}
+use Rattle.ns_moves.specs.Move.{moves}
+use Rattle.ns_moves.specs.Turn.{is_still}
+use Rattle.ns_moves.specs.Starts.{begun}
+use Rattle.ns_moves.specs.Valid.{Valid}
+use Rattle.ns_moves.specs.Beginning.{MayBegin}
 
 -- ---- the renaming
 

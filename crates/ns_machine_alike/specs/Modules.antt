@@ -9,11 +9,11 @@ use Rattle.ns_world.specs.Cell.{Cell}
 use Rattle.ns_world.specs.Heap.{heap_size, find_cell}
 use Rattle.ns_world.specs.Seek.{first_such, is_top}
 use Rattle.ns_world.specs.World.{World}
-use Rattle.ns_machine_moves.specs.State.{State, is_idle, progress_of, world_of}
-use Rattle.ns_machine_moves.specs.Move.{moves}
-use Rattle.ns_machine_moves.specs.Starts.{begun}
-use Rattle.ns_machine_moves.specs.Valid.{Valid}
-use Rattle.ns_machine_moves.specs.Beginning.{MayBegin}
+use Rattle.ns_moves.specs.State.{State, is_idle, progress_of, world_of}
+use Rattle.ns_moves.specs.Move.{moves}
+use Rattle.ns_moves.specs.Starts.{begun}
+use Rattle.ns_moves.specs.Valid.{Valid}
+use Rattle.ns_moves.specs.Beginning.{MayBegin}
 use Rattle.ns_machine_alike.specs.Isolated.{StatesAlike, RunsAlike}
 use Rattle.ns_machine_alike.specs.Premises.{ArePlain}
 

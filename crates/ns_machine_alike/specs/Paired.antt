@@ -13,12 +13,12 @@ use Rattle.ns_world.specs.World.{World}
 use Rattle.ns_find.specs.declared.found.Found.{Found}
 use Rattle.ns_find.specs.declared.found.Found.TheVariants as found
 use Rattle.ns_kcode.specs.declared.state.KState.{KState}
-use Rattle.ns_actions.specs.Suiting.{is_reference}
-use Rattle.ns_actions.specs.Bodies.{no_home}
-use Rattle.ns_actions.specs.Control.{Progress, Activation, Exit, FromMethod, FromBody, FromClause, After, Gives, Halts, Control, Now, Enter, Evaluate}
-use Rattle.ns_actions.specs.Control.{Begin, Perform, PartControl, Skip, Stop, EnterPart, Waiting, Waits, Finishes}
-use Rattle.ns_machine_moves.specs.State.{Leaving, Loud, Silent, Frame, Running, Looping, Pending, Sending, Performing, Evaluating, Phase}
-use Rattle.ns_machine_moves.specs.State.{Hosted, State, Going, Pends, Ended, Stuck}
+use Rattle.ns_moves.specs.Suiting.{is_reference}
+use Rattle.ns_moves.specs.Bodies.{no_home}
+use Rattle.ns_moves.specs.Control.{Progress, Activation, Exit, FromMethod, FromBody, FromClause, After, Gives, Halts, Control, Now, Enter, Evaluate}
+use Rattle.ns_moves.specs.Control.{Begin, Perform, PartControl, Skip, Stop, EnterPart, Waiting, Waits, Finishes}
+use Rattle.ns_moves.specs.State.{Leaving, Loud, Silent, Frame, Running, Looping, Pending, Sending, Performing, Evaluating, Phase}
+use Rattle.ns_moves.specs.State.{Hosted, State, Going, Pends, Ended, Stuck}
 use Rattle.ns_machine_reach.specs.Within.{IsGranted}
 
 -- ---- numbers of cells

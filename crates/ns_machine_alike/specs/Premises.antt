@@ -6,9 +6,9 @@ use Rattle.ns_world.specs.declared.value.Value.{Value}
 use Rattle.ns_world.specs.declared.cell.FacetKind.TheVariants.{Board}
 use Rattle.ns_world.specs.Reach.{IsInReach, all_referred}
 use Rattle.ns_world.specs.Alike.{Renaming, AlikeValues, Alike}
-use Rattle.ns_actions.specs.Suiting.{is_reference}
-use Rattle.ns_machine_moves.specs.State.{State, is_idle, world_of}
-use Rattle.ns_machine_moves.specs.Valid.{Valid}
+use Rattle.ns_moves.specs.Suiting.{is_reference}
+use Rattle.ns_moves.specs.State.{State, is_idle, world_of}
+use Rattle.ns_moves.specs.Valid.{Valid}
 use Rattle.ns_machine_reach.specs.Reached.{LacksFacet}
 use Rattle.ns_machine_alike.specs.Isolated.{StatesAlike}
 

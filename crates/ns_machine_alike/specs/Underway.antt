@@ -5,11 +5,11 @@ use Rattle.ns_code.specs.declared.program.CodeProgram.{CodeProgram}
 use Rattle.ns_facets.specs.declared.row.Grants.{Grants}
 use Rattle.ns_world.specs.declared.value.Value.{Value}
 use Rattle.ns_world.specs.Alike.{Renaming}
-use Rattle.ns_machine_moves.specs.State.{State, is_idle}
-use Rattle.ns_machine_moves.specs.Turn.{Turns}
-use Rattle.ns_machine_moves.specs.Starts.{begun}
-use Rattle.ns_machine_moves.specs.Valid.{Valid}
-use Rattle.ns_machine_moves.specs.Beginning.{MayBegin}
+use Rattle.ns_moves.specs.State.{State, is_idle}
+use Rattle.ns_moves.specs.Turn.{Turns}
+use Rattle.ns_moves.specs.Starts.{begun}
+use Rattle.ns_moves.specs.Valid.{Valid}
+use Rattle.ns_moves.specs.Beginning.{MayBegin}
 use Rattle.ns_machine_alike.specs.Isolated.{StatesAlike, RunsAlike}
 
 -- ---- a send and its turns

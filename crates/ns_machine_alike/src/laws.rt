@@ -13,11 +13,11 @@ ghost use Rattle.ns_machine_alike.specs.Modules.{ModulesAreAlike, ModulesComeToT
 pub fn sends_are_alike()
     ensures { (code : CodeProgram) (grants grants' : Grants) → SendsAreAlike code grants grants' }
 {
-    ns_actions::laws::rows_that_are_found_suit();
-    ns_actions::finding::enclosing_objects_are_there();
-    ns_machine_moves::valid_frames::moves_keep_frames_valid();
-    ns_machine_moves::valid_frames::moves_keep_valid();
-    ns_machine_moves::valid_world::sends_of_a_host_are_valid();
+    ns_moves::laws::rows_that_are_found_suit();
+    ns_moves::finding::enclosing_objects_are_there();
+    ns_moves::valid_frames::moves_keep_frames_valid();
+    ns_moves::valid_frames::moves_keep_valid();
+    ns_moves::valid_world::sends_of_a_host_are_valid();
 }
 
 /// So what a send has led to, it leads to in each such state.
@@ -32,8 +32,8 @@ pub fn ended_sends_are_alike()
     ensures { (code : CodeProgram) (grants grants' : Grants) → EndedSendsAreAlike code grants grants' }
 {
     sends_are_alike();
-    ns_machine_moves::laws::moves_add();
-    ns_machine_moves::laws::ended_runs_stay();
+    ns_moves::move_laws::moves_add();
+    ns_moves::move_laws::ended_runs_stay();
 }
 
 /// A renaming goes on as one list of pairs, which can be computed.
@@ -48,7 +48,7 @@ pub fn turns_come_to_the_same()
 {
     sends_are_alike();
     renamings_go_on();
-    ns_machine_moves::laws::moves_add();
+    ns_moves::move_laws::moves_add();
 }
 
 /// So two sends from states that are alike, which have had turns of the same sizes, are alike.
@@ -56,7 +56,7 @@ pub fn turns_are_alike()
     ensures { (code : CodeProgram) (grants grants' : Grants) → TurnsAreAlike code grants grants' }
 {
     turns_come_to_the_same();
-    ns_machine_moves::laws::turns_add();
+    ns_moves::move_laws::turns_add();
 }
 
 /// A send that is under way goes on with each turn, and these turns lead to the same in each such state.

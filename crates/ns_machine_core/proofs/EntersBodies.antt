@@ -10,16 +10,16 @@ use Rattle.ns_world.specs.declared.value.Value.{Value}
 use Rattle.ns_world.specs.declared.value.Value.TheVariants.{Nil}
 use Rattle.ns_verify.specs.Verify.{IsSound}
 use Rattle.ns_verify.specs.Uses.{StandsRight}
-use Rattle.ns_actions.specs.declared.site.Site.{Site}
-use Rattle.ns_actions.specs.declared.control.Exit.{Exit}
-use Rattle.ns_actions.specs.declared.control.Entered.{Entered}
-use Rattle.ns_actions.specs.declared.control.Given.{Given}
-use Rattle.ns_actions.specs.declared.control.Given.TheVariants as given
-use Rattle.ns_actions.specs.declared.control.Reached.TheVariants as reached
-use Rattle.ns_actions.specs.Bodies.{parameters_of, locals_of, has_environment, height_in, greatest_of}
-use Rattle.ns_actions.specs.Control.{Progress}
-use Rattle.ns_actions.specs.Shown.{given_values, passed, reached_shown}
-use Rattle.ns_actions.specs.Fitting.{StandsWell, FitsNext}
+use Rattle.ns_moves.specs.declared.site.Site.{Site}
+use Rattle.ns_moves.specs.declared.control.Exit.{Exit}
+use Rattle.ns_moves.specs.declared.control.Entered.{Entered}
+use Rattle.ns_moves.specs.declared.control.Given.{Given}
+use Rattle.ns_moves.specs.declared.control.Given.TheVariants as given
+use Rattle.ns_moves.specs.declared.control.Reached.TheVariants as reached
+use Rattle.ns_moves.specs.Bodies.{parameters_of, locals_of, has_environment, height_in, greatest_of}
+use Rattle.ns_moves.specs.Control.{Progress}
+use Rattle.ns_moves.specs.Shown.{given_values, passed, reached_shown}
+use Rattle.ns_moves.specs.Fitting.{StandsWell, FitsNext}
 use Rattle.ns_machine_frames.specs.declared.calls.Call.{Call}
 use Rattle.ns_machine_frames.specs.declared.registers.Registers.{Registers}
 use Rattle.ns_machine_frames.specs.declared.stack.Stack.{Stack}

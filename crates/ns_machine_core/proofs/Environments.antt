@@ -13,11 +13,11 @@ use Rattle.ns_world.specs.Heap.{Heap, find_cell, shape_at, words_at, cell_number
 use Rattle.ns_world.specs.Lawful.{FitsEnvironment, environment_in, is_environment, parent_of}
 use Rattle.ns_verify.specs.Chains.{body_around, body_at}
 use Rattle.ns_verify.specs.Uses.{HasLocal as NamesLocal}
-use Rattle.ns_actions.specs.Control.{Activation}
-use Rattle.ns_actions.specs.Bodies.{has_environment, locals_of, environment_out, parent_in, is_beside}
-use Rattle.ns_actions.specs.Fitting.{environment_body, locals_beside}
-use Rattle.ns_machine_moves.specs.laws.Levels.{around_is}
-use Rattle.ns_actions.specs.Locals.{HasEnvironments, LocalIsReadable}
+use Rattle.ns_moves.specs.Control.{Activation}
+use Rattle.ns_moves.specs.Bodies.{has_environment, locals_of, environment_out, parent_in, is_beside}
+use Rattle.ns_moves.specs.Fitting.{environment_body, locals_beside}
+use Rattle.ns_moves.specs.laws.Levels.{around_is}
+use Rattle.ns_moves.specs.Locals.{HasEnvironments, LocalIsReadable}
 
 -- ---- one environment
 

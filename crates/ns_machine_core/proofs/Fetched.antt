@@ -16,17 +16,17 @@ use Rattle.ns_verify.specs.Heights.{heights}
 use Rattle.ns_verify.specs.Verify.{IsSound}
 use Rattle.ns_verify.specs.Places.{height_before, HeightsAgree}
 use Rattle.ns_verify.specs.Uses.{IsUsable}
-use Rattle.ns_actions.specs.Control.{Progress}
-use Rattle.ns_machine_moves.specs.State as state
-use Rattle.ns_machine_moves.specs.State.{Phase, Going}
-use Rattle.ns_machine_moves.specs.Steps.{PlacedInstr, placed, steps_of, steps_from}
-use Rattle.ns_machine_moves.specs.Move.{move}
-use Rattle.ns_machine_moves.specs.Standing.{ValidFindsAsked}
-use Rattle.ns_machine_moves.specs.WorldAsks.{FindsAsked, InstructionRunsOn}
-use Rattle.ns_machine_moves.specs.ValidFrames.{Nothing, next_number, height_of, StandsBefore, RunningIsValid}
-use Rattle.ns_machine_moves.specs.Valid.{WorldIsValid, Valid}
-use Rattle.ns_machine_moves.specs.laws.Steps.{placed_length, placed_at}
-use Rattle.ns_actions.specs.Start.{standing_cells}
+use Rattle.ns_moves.specs.Control.{Progress}
+use Rattle.ns_moves.specs.State as state
+use Rattle.ns_moves.specs.State.{Phase, Going}
+use Rattle.ns_moves.specs.Steps.{PlacedInstr, placed, steps_of, steps_from}
+use Rattle.ns_moves.specs.Move.{move}
+use Rattle.ns_moves.specs.Standing.{ValidFindsAsked}
+use Rattle.ns_moves.specs.WorldAsks.{FindsAsked, InstructionRunsOn}
+use Rattle.ns_moves.specs.ValidFrames.{Nothing, next_number, height_of, StandsBefore, RunningIsValid}
+use Rattle.ns_moves.specs.Valid.{WorldIsValid, Valid}
+use Rattle.ns_moves.specs.laws.Steps.{placed_length, placed_at}
+use Rattle.ns_moves.specs.Start.{standing_cells}
 use Rattle.ns_machine_frames.specs.declared.frame.Frame.{Frame}
 use Rattle.ns_machine_frames.specs.declared.frame.Frame.TheVariants.{Running}
 use Rattle.ns_machine_frames.specs.declared.frame.RunningFrame.{RunningFrame}
@@ -36,7 +36,7 @@ use Rattle.ns_machine_frames.specs.View.{leaving_shown, activation_shown, frames
 use Rattle.ns_machine_core.specs.declared.state.Core.{Core}
 use Rattle.ns_machine_core.specs.declared.state.Next.TheVariants.{On}
 use Rattle.ns_machine_core.specs.Shown.{phase_shown, progress_in, shown}
-use Rattle.ns_actions.specs.Bodies.{height_in}
+use Rattle.ns_moves.specs.Bodies.{height_in}
 use Rattle.ns_machine_core.specs.Doing.{done, FindsWhatItTakes, Finds}
 use Rattle.ns_machine_core.specs.Moving.{HasNextStep}
 

@@ -15,13 +15,13 @@ use Rattle.ns_world.specs.declared.value.Value.{Value}
 use Rattle.ns_verify.specs.Heights.{heights}
 use Rattle.ns_verify.specs.Verify.{IsSound}
 use Rattle.ns_verify.specs.Places.{height_before, HeightsAgree}
-use Rattle.ns_actions.specs.Control.{Progress}
-use Rattle.ns_machine_moves.specs.State as state
-use Rattle.ns_machine_moves.specs.State.{Phase, Going, Pending, Pends}
-use Rattle.ns_machine_moves.specs.Steps.{PlacedInstr, steps_from}
-use Rattle.ns_machine_moves.specs.ValidFrames.{Awaited, Nothing, SendValue, BlockValue, PartEnd, is_send, WaitsBehind, FrameIsValid, FramesAreValid, awaited_below, awaited_for, next_number}
-use Rattle.ns_actions.specs.Fitting.{kind_of}
-use Rattle.ns_machine_moves.specs.Valid.{Valid}
+use Rattle.ns_moves.specs.Control.{Progress}
+use Rattle.ns_moves.specs.State as state
+use Rattle.ns_moves.specs.State.{Phase, Going, Pending, Pends}
+use Rattle.ns_moves.specs.Steps.{PlacedInstr, steps_from}
+use Rattle.ns_moves.specs.ValidFrames.{Awaited, Nothing, SendValue, BlockValue, PartEnd, is_send, WaitsBehind, FrameIsValid, FramesAreValid, awaited_below, awaited_for, next_number}
+use Rattle.ns_moves.specs.Fitting.{kind_of}
+use Rattle.ns_moves.specs.Valid.{Valid}
 use Rattle.ns_machine_frames.specs.declared.frame.Activation.{Activation}
 use Rattle.ns_machine_frames.specs.declared.frame.Leaving.{Leaving}
 use Rattle.ns_machine_frames.specs.declared.frame.Leaving.TheVariants.{Method, Body, Clause, Part}
@@ -31,7 +31,7 @@ use Rattle.ns_machine_frames.specs.declared.frame.RunningFrame.{RunningFrame}
 use Rattle.ns_machine_frames.specs.Standing.{Stood, Runs, Loops, standing, at_next}
 use Rattle.ns_machine_frames.specs.View.{leaving_shown, activation_shown, frame_shown, frames_shown}
 use Rattle.ns_machine_frames.specs.laws.Counts.{many_shown}
-use Rattle.ns_actions.specs.Bodies.{height_in}
+use Rattle.ns_moves.specs.Bodies.{height_in}
 use Rattle.ns_machine_core.specs.Framed.{HasRoomOnTop, answers, AnswersHaveRoom, AreFramed}
 
 -- ---- sends that wait

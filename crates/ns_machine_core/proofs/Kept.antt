@@ -5,13 +5,13 @@ use Rattle.ns_facets.specs.declared.row.Grants.{Grants}
 use Rattle.ns_world.specs.Later.{IsLater, Lasts}
 use Rattle.ns_find.specs.declared.memo.Kept.{Kept}
 use Rattle.ns_find.specs.Memo.{PlaceIsRight}
-use Rattle.ns_machine_moves.specs.State.{State, progress_of}
-use Rattle.ns_machine_moves.specs.Steps.{PlacedInstr}
-use Rattle.ns_machine_moves.specs.Move.{moves}
-use Rattle.ns_machine_moves.specs.Onward.{MovesGoOnward}
-use Rattle.ns_machine_moves.specs.Standing.{MovesKeepValid}
-use Rattle.ns_machine_moves.specs.Valid.{Valid}
-use Rattle.ns_actions.specs.Control.{Progress}
+use Rattle.ns_moves.specs.State.{State, progress_of}
+use Rattle.ns_moves.specs.Steps.{PlacedInstr}
+use Rattle.ns_moves.specs.Move.{moves}
+use Rattle.ns_moves.specs.MovesOnward.{MovesGoOnward}
+use Rattle.ns_moves.specs.Standing.{MovesKeepValid}
+use Rattle.ns_moves.specs.Valid.{Valid}
+use Rattle.ns_moves.specs.Control.{Progress}
 use Rattle.ns_machine_frames.specs.declared.registers.Registers.{Registers}
 use Rattle.ns_machine_core.specs.declared.state.Core.{Core}
 use Rattle.ns_machine_core.specs.declared.state.Next.{Next}

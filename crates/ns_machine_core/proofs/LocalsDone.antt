@@ -12,12 +12,12 @@ use Rattle.ns_world.specs.declared.value.Value.TheVariants.{Nil}
 use Rattle.ns_world.specs.Heap.{Heap}
 use Rattle.ns_world.specs.World.{WorldView}
 use Rattle.ns_verify.specs.Uses.{IsUsable, HasLocal as NamesLocal}
-use Rattle.ns_actions.specs.declared.site.Site.{Site}
-use Rattle.ns_actions.specs.Control.{Progress, Activation, in_world}
-use Rattle.ns_actions.specs.Bodies.{has_environment, is_beside, local_at, locals_with, local_stored}
-use Rattle.ns_machine_moves.specs.State.{Going}
-use Rattle.ns_actions.specs.Room.{SameRest}
-use Rattle.ns_actions.specs.Running.{activation_at, code_of}
+use Rattle.ns_moves.specs.declared.site.Site.{Site}
+use Rattle.ns_moves.specs.Control.{Progress, Activation, in_world}
+use Rattle.ns_moves.specs.Bodies.{has_environment, is_beside, local_at, locals_with, local_stored}
+use Rattle.ns_moves.specs.State.{Going}
+use Rattle.ns_moves.specs.Room.{SameRest}
+use Rattle.ns_moves.specs.Running.{activation_at, code_of}
 use Rattle.ns_machine_frames.specs.declared.frame.Frame.{Frame}
 use Rattle.ns_machine_frames.specs.declared.frame.Frame.TheVariants.{Running}
 use Rattle.ns_machine_frames.specs.declared.frame.RunningFrame.{RunningFrame}

@@ -7,15 +7,15 @@ use Rattle.ns_code.specs.declared.instruction.Instr.TheVariants as instr
 use Rattle.ns_world.specs.declared.value.Value.{Value}
 use Rattle.ns_world.specs.declared.ending.Fault.{Fault}
 use Rattle.ns_world.specs.World.{WorldView}
-use Rattle.ns_actions.specs.declared.site.Site.{Site}
-use Rattle.ns_actions.specs.Control.{Progress, in_world}
-use Rattle.ns_actions.specs.Blocks.{new_block, new_text, new_array}
-use Rattle.ns_actions.specs.Shown.{answer_shown}
-use Rattle.ns_machine_moves.specs.State.{State, Stuck}
-use Rattle.ns_machine_moves.specs.Steps.{literal}
-use Rattle.ns_machine_moves.specs.Returns.{settled}
-use Rattle.ns_actions.specs.Room.{SameRest}
-use Rattle.ns_actions.specs.Running.{activation_at}
+use Rattle.ns_moves.specs.declared.site.Site.{Site}
+use Rattle.ns_moves.specs.Control.{Progress, in_world}
+use Rattle.ns_moves.specs.Blocks.{new_block, new_text, new_array}
+use Rattle.ns_moves.specs.Shown.{answer_shown}
+use Rattle.ns_moves.specs.State.{State, Stuck}
+use Rattle.ns_moves.specs.Steps.{literal}
+use Rattle.ns_moves.specs.Returns.{settled}
+use Rattle.ns_moves.specs.Room.{SameRest}
+use Rattle.ns_moves.specs.Running.{activation_at}
 use Rattle.ns_machine_frames.specs.declared.frame.Frame.TheVariants.{Running}
 use Rattle.ns_machine_frames.specs.declared.frame.KeptSite.{KeptSite}
 use Rattle.ns_machine_frames.specs.declared.frame.RunningFrame.{RunningFrame}

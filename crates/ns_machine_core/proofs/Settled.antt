@@ -3,9 +3,9 @@ use Rattle.std.proofs.Common.{◌≡◌, List, [], ◌∷◌, ◌∙◌, refl, O
 use Rattle.ns_code.specs.declared.program.CodeProgram.{CodeProgram}
 use Rattle.ns_world.specs.declared.value.Value.{Value}
 use Rattle.ns_world.specs.declared.ending.Fault.{Fault}
-use Rattle.ns_actions.specs.Site.{fault_ending}
-use Rattle.ns_machine_moves.specs.State.{Going}
-use Rattle.ns_machine_moves.specs.Returns.{delivered}
+use Rattle.ns_moves.specs.Site.{fault_ending}
+use Rattle.ns_moves.specs.State.{Going}
+use Rattle.ns_moves.specs.Returns.{delivered}
 use Rattle.ns_machine_frames.specs.declared.frame.Frame.{Frame}
 use Rattle.ns_machine_frames.specs.declared.frame.Frame.TheVariants.{Running, Looping}
 use Rattle.ns_machine_frames.specs.declared.frame.KeptSite.{KeptSite}

@@ -8,13 +8,13 @@ use Rattle.ns_world.specs.declared.value.Value.{Value}
 use Rattle.ns_world.specs.World.{World, WorldView}
 use Rattle.ns_world.specs.Heap.{find_cell, is_class}
 use Rattle.ns_world.specs.Lawful.{IsLawful}
-use Rattle.ns_actions.specs.declared.site.Site.{Site}
-use Rattle.ns_actions.specs.Control.{Progress, Activation, in_world}
-use Rattle.ns_actions.specs.Classes.{slot_filled}
-use Rattle.ns_actions.specs.Lawful.{FitsActivation, FitsSlot}
-use Rattle.ns_machine_moves.specs.State.{Going}
-use Rattle.ns_actions.specs.Room.{SameRest}
-use Rattle.ns_actions.specs.Running.{activation_at, code_of}
+use Rattle.ns_moves.specs.declared.site.Site.{Site}
+use Rattle.ns_moves.specs.Control.{Progress, Activation, in_world}
+use Rattle.ns_moves.specs.Classes.{slot_filled}
+use Rattle.ns_moves.specs.Lawful.{FitsActivation, FitsSlot}
+use Rattle.ns_moves.specs.State.{Going}
+use Rattle.ns_moves.specs.Room.{SameRest}
+use Rattle.ns_moves.specs.Running.{activation_at, code_of}
 use Rattle.ns_machine_frames.specs.declared.frame.Frame.TheVariants.{Running}
 use Rattle.ns_machine_frames.specs.declared.frame.RunningFrame.{RunningFrame}
 use Rattle.ns_machine_frames.specs.declared.registers.Registers.{Registers}

@@ -4,7 +4,7 @@ use Rattle.ns_base.specs.declared.place.Place.{Place as SourcePlace}
 use Rattle.ns_code.specs.declared.program.CodeProgram.{CodeProgram}
 use Rattle.ns_code.specs.declared.instruction.Instr.TheVariants as instr
 use Rattle.ns_world.specs.declared.value.Value.{Value}
-use Rattle.ns_machine_moves.specs.State.{State, Going, Stuck}
+use Rattle.ns_moves.specs.State.{State, Going, Stuck}
 use Rattle.ns_machine_frames.specs.declared.registers.Registers.{Registers}
 use Rattle.ns_machine_frames.specs.Standing.{Stood, Runs, Loops, pushed, operands_in}
 use Rattle.ns_machine_frames.specs.Stack.{stood, IsLaid}

@@ -1,9 +1,9 @@
 -- A turn, move by move.
 use Rattle.std.proofs.Common.{◌≡◌, ℕ, zero, suc, ◌+◌, refl, ap, ◌∙◌, arith, inl, inr, Bool, true, false}
 use Rattle.ns_code.specs.declared.program.CodeProgram.{CodeProgram}
-use Rattle.ns_machine_moves.specs.State.{State}
-use Rattle.ns_machine_moves.specs.Move.{move}
-use Rattle.ns_machine_moves.specs.Turn.{is_still, charges, one_if, charged_in, Turns}
+use Rattle.ns_moves.specs.State.{State}
+use Rattle.ns_moves.specs.Move.{move}
+use Rattle.ns_moves.specs.Turn.{is_still, charges, one_if, charged_in, Turns}
 use Rattle.ns_machine_core.specs.Turning.{EndsTheWhole}
 
 pub begins : (code : CodeProgram) (steps : ℕ) (first : State) → EndsTheWhole code steps first steps first

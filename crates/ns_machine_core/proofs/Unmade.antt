@@ -7,12 +7,12 @@ use Rattle.ns_world.specs.declared.ending.Fault.{Fault}
 use Rattle.ns_world.specs.declared.ending.LimitKind.TheVariants.{Cells}
 use Rattle.ns_world.specs.Cell.{BlockCell}
 use Rattle.ns_world.specs.World.{World, WorldView, made}
-use Rattle.ns_actions.specs.declared.site.Site.{Site}
-use Rattle.ns_actions.specs.Blocks.{new_block}
-use Rattle.ns_actions.specs.Control.{After, Progress, Halts, charged, in_world}
-use Rattle.ns_actions.specs.Shown.{answer_shown}
-use Rattle.ns_actions.specs.Room.{SameRest}
-use Rattle.ns_actions.specs.Running.{activation_at}
+use Rattle.ns_moves.specs.declared.site.Site.{Site}
+use Rattle.ns_moves.specs.Blocks.{new_block}
+use Rattle.ns_moves.specs.Control.{After, Progress, Halts, charged, in_world}
+use Rattle.ns_moves.specs.Shown.{answer_shown}
+use Rattle.ns_moves.specs.Room.{SameRest}
+use Rattle.ns_moves.specs.Running.{activation_at}
 use Rattle.ns_machine_frames.specs.declared.frame.RunningFrame.{RunningFrame}
 use Rattle.ns_machine_frames.specs.declared.registers.Registers.{Registers}
 use Rattle.ns_machine_frames.specs.View.{site_shown}

@@ -1,15 +1,15 @@
 -- Where an action's end leads: into a body, into a method of the kernel, or to an evaluation that waits.
 use Rattle.std.specs.Prelude.{◌≡◌, ℕ, ◌≤◌, length, List}
 use Rattle.ns_code.specs.declared.program.CodeProgram.{CodeProgram}
-use Rattle.ns_actions.specs.declared.control.Exit.{Exit}
-use Rattle.ns_actions.specs.declared.control.Entered.{Entered}
-use Rattle.ns_actions.specs.declared.control.Reached.{Reached}
+use Rattle.ns_moves.specs.declared.control.Exit.{Exit}
+use Rattle.ns_moves.specs.declared.control.Entered.{Entered}
+use Rattle.ns_moves.specs.declared.control.Reached.{Reached}
 use Rattle.ns_world.specs.declared.value.Value.{Value}
 use Rattle.ns_machine_frames.specs.declared.frame.KeptSite.{KeptSite}
-use Rattle.ns_actions.specs.Bodies as bodies
-use Rattle.ns_actions.specs.Control.{Control}
-use Rattle.ns_actions.specs.Shown.{given_values, passed, reached_shown}
-use Rattle.ns_machine_moves.specs.Arrivals.{arrived}
+use Rattle.ns_moves.specs.Bodies as bodies
+use Rattle.ns_moves.specs.Control.{Control}
+use Rattle.ns_moves.specs.Shown.{given_values, passed, reached_shown}
+use Rattle.ns_moves.specs.Arrivals.{arrived}
 use Rattle.ns_machine_frames.specs.declared.calls.BodyShape.{BodyShape}
 use Rattle.ns_machine_frames.specs.declared.calls.Call.{Call}
 use Rattle.ns_machine_frames.specs.declared.registers.Registers.{Registers}
@@ -21,7 +21,7 @@ use Rattle.ns_machine_core.specs.declared.state.Core.{Core}
 use Rattle.ns_machine_core.specs.declared.state.Next.{Next}
 use Rattle.ns_machine_core.specs.Shown.{progress_in, phase_shown, shown}
 use Rattle.ns_machine_core.specs.Standing.{StandAt, KeepsRooms}
-use Rattle.ns_actions.specs.Bodies.{height_in, greatest_of}
+use Rattle.ns_moves.specs.Bodies.{height_in, greatest_of}
 
 -- what code says of a body
 abbrev pub shape_of : CodeProgram → ℕ → BodyShape

@@ -4,7 +4,7 @@ use Rattle.std.specs.Option.{ForSome}
 use Rattle.ns_code.specs.declared.body.BodyCode.{BodyCode}
 use Rattle.ns_verify.specs.Verify.{IsSound}
 use Rattle.ns_verify.specs.Uses.{IsUsable}
-use Rattle.ns_actions.specs.Fitting.{FitsObject, FitsSite, environment_body, locals_beside}
+use Rattle.ns_moves.specs.Fitting.{FitsObject, FitsSite, environment_body, locals_beside}
 use Rattle.ns_base.specs.declared.place.Place.{Place as SourcePlace}
 use Rattle.ns_code.specs.declared.program.CodeProgram.{CodeProgram}
 use Rattle.ns_code.specs.declared.instruction.Instr.{Instr}
@@ -12,15 +12,15 @@ use Rattle.ns_code.specs.Table.{takes, leaves, goes_on, target}
 use Rattle.ns_world.specs.declared.value.Value.{Value}
 use Rattle.ns_world.specs.declared.ending.Fault.{Fault}
 use Rattle.ns_world.specs.Lawful.{IsLiveValue, IsLawful, FitsEnvironment}
-use Rattle.ns_actions.specs.Control.{Progress}
-use Rattle.ns_actions.specs.Lawful.{FitsActivation}
-use Rattle.ns_actions.specs.Shown.{answer_shown}
-use Rattle.ns_machine_moves.specs.State.{Phase, State, Stuck}
-use Rattle.ns_machine_moves.specs.Steps.{steps_of, steps_from}
-use Rattle.ns_machine_moves.specs.Instructions.{executed}
-use Rattle.ns_machine_moves.specs.Returns.{settled}
-use Rattle.ns_machine_moves.specs.WorldAsks.{InstrAsks}
-use Rattle.ns_actions.specs.declared.running.Running.{Running as RunningCode}
+use Rattle.ns_moves.specs.Control.{Progress}
+use Rattle.ns_moves.specs.Lawful.{FitsActivation}
+use Rattle.ns_moves.specs.Shown.{answer_shown}
+use Rattle.ns_moves.specs.State.{Phase, State, Stuck}
+use Rattle.ns_moves.specs.Steps.{steps_of, steps_from}
+use Rattle.ns_moves.specs.Instructions.{executed}
+use Rattle.ns_moves.specs.Returns.{settled}
+use Rattle.ns_moves.specs.WorldAsks.{InstrAsks}
+use Rattle.ns_moves.specs.declared.running.Running.{Running as RunningCode}
 use Rattle.ns_machine_frames.specs.declared.frame.Activation.{Activation as KeptActivation}
 use Rattle.ns_machine_frames.specs.declared.frame.Frame.{Frame}
 use Rattle.ns_machine_frames.specs.declared.frame.Frame.TheVariants.{Running, Looping}
@@ -35,7 +35,7 @@ use Rattle.ns_machine_core.specs.declared.state.Next.{Next}
 use Rattle.ns_machine_core.specs.Shown.{phase_shown, progress_in, shown}
 use Rattle.ns_machine_core.specs.Framed.{AreFramed}
 use Rattle.ns_machine_core.specs.Standing.{AreStanding, HasStandingFrames, StandAt, KeepsRooms, KeepsRightIn}
-use Rattle.ns_actions.specs.Bodies.{height_in}
+use Rattle.ns_moves.specs.Bodies.{height_in}
 
 -- what an instruction does in a run whose topmost frame stands behind it
 abbrev pub done : CodeProgram → List SourcePlace → Phase → Instr → Option SourcePlace → List Stood → Progress → State

@@ -3,14 +3,14 @@ use Rattle.std.specs.Prelude.{◌≡◌, ℕ, ◌<◌, ◌≤◌, List, length, 
 use Rattle.ns_code.specs.declared.program.CodeProgram.{CodeProgram}
 use Rattle.ns_verify.specs.Verify.{IsSound}
 use Rattle.ns_world.specs.declared.value.Value.{Value}
-use Rattle.ns_actions.specs.Bodies.{has_environment, locals_of}
-use Rattle.ns_actions.specs.Control.{Progress}
-use Rattle.ns_actions.specs.declared.site.Site.{Site}
-use Rattle.ns_actions.specs.declared.control.Exit.{Exit}
-use Rattle.ns_actions.specs.declared.control.Entered.{Entered}
-use Rattle.ns_actions.specs.declared.control.Reached.TheVariants as reached
-use Rattle.ns_actions.specs.Shown.{given_values, passed, reached_shown}
-use Rattle.ns_actions.specs.Fitting.{FitsNext}
+use Rattle.ns_moves.specs.Bodies.{has_environment, locals_of}
+use Rattle.ns_moves.specs.Control.{Progress}
+use Rattle.ns_moves.specs.declared.site.Site.{Site}
+use Rattle.ns_moves.specs.declared.control.Exit.{Exit}
+use Rattle.ns_moves.specs.declared.control.Entered.{Entered}
+use Rattle.ns_moves.specs.declared.control.Reached.TheVariants as reached
+use Rattle.ns_moves.specs.Shown.{given_values, passed, reached_shown}
+use Rattle.ns_moves.specs.Fitting.{FitsNext}
 use Rattle.ns_machine_frames.specs.declared.calls.Call.{Call}
 use Rattle.ns_machine_frames.specs.declared.registers.Registers.{Registers}
 use Rattle.ns_machine_frames.specs.Calls.{arguments_for, arguments_of, HasPlaceFor}

@@ -4,16 +4,16 @@ use Rattle.ns_base.specs.declared.place.Place.{Place as SourcePlace}
 use Rattle.ns_code.specs.declared.program.CodeProgram.{CodeProgram}
 use Rattle.ns_code.specs.Selector.{selector_arity}
 use Rattle.ns_facets.specs.declared.row.Grants.{Grants}
-use Rattle.ns_actions.specs.Control.{Progress}
-use Rattle.ns_machine_moves.specs.State.{Phase, Going, Pending, Pends}
-use Rattle.ns_machine_moves.specs.ValidFrames.{SendValue, awaited_for}
-use Rattle.ns_machine_moves.specs.Valid.{Valid}
+use Rattle.ns_moves.specs.Control.{Progress}
+use Rattle.ns_moves.specs.State.{Phase, Going, Pending, Pends}
+use Rattle.ns_moves.specs.ValidFrames.{SendValue, awaited_for}
+use Rattle.ns_moves.specs.Valid.{Valid}
 use Rattle.ns_machine_frames.specs.declared.frame.Leaving.{Leaving}
 use Rattle.ns_machine_frames.specs.declared.frame.Leaving.TheVariants.{Method, Body, Clause, Part}
 use Rattle.ns_machine_frames.specs.Standing.{Stood, Runs, Loops}
 use Rattle.ns_machine_frames.specs.View.{frames_shown}
 use Rattle.ns_machine_core.specs.Standing.{most_arguments}
-use Rattle.ns_actions.specs.Bodies.{height_in}
+use Rattle.ns_moves.specs.Bodies.{height_in}
 
 -- A body on top has room for one operand more.
 abbrev pub HasRoomOnTop : CodeProgram → List Stood → Type 0

@@ -4,11 +4,11 @@ use Rattle.ns_base.specs.declared.place.Place.{Place as SourcePlace}
 use Rattle.ns_code.specs.declared.program.CodeProgram.{CodeProgram}
 use Rattle.ns_world.specs.declared.ending.Ending.{Ending}
 use Rattle.ns_world.specs.declared.ending.Kind.TheVariants.{MustBeBoolean}
-use Rattle.ns_actions.specs.Site.{error}
-use Rattle.ns_actions.specs.Control.{Progress}
-use Rattle.ns_machine_moves.specs.State.{Phase, State, Stuck}
-use Rattle.ns_machine_moves.specs.Steps.{steps_of, steps_from}
-use Rattle.ns_machine_moves.specs.Jumps.{jumped}
+use Rattle.ns_moves.specs.Site.{error}
+use Rattle.ns_moves.specs.Control.{Progress}
+use Rattle.ns_moves.specs.State.{Phase, State, Stuck}
+use Rattle.ns_moves.specs.Steps.{steps_of, steps_from}
+use Rattle.ns_moves.specs.Jumps.{jumped}
 use Rattle.ns_machine_frames.specs.declared.frame.Frame.{Frame}
 use Rattle.ns_machine_frames.specs.declared.frame.Frame.TheVariants.{Running, Looping}
 use Rattle.ns_machine_frames.specs.declared.registers.Registers.{Registers}

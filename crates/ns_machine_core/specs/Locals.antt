@@ -2,10 +2,10 @@
 use Rattle.std.specs.Prelude.{◌≡◌, ℕ, ◌<◌, length, true}
 use Rattle.ns_code.specs.declared.program.CodeProgram.{CodeProgram}
 use Rattle.ns_world.specs.Heap.{Heap}
-use Rattle.ns_actions.specs.Bodies.{is_beside}
-use Rattle.ns_actions.specs.declared.running.Running.{Running}
-use Rattle.ns_actions.specs.Running.{code_of}
-use Rattle.ns_actions.specs.Locals.{LocalIsReadable}
+use Rattle.ns_moves.specs.Bodies.{is_beside}
+use Rattle.ns_moves.specs.declared.running.Running.{Running}
+use Rattle.ns_moves.specs.Running.{code_of}
+use Rattle.ns_moves.specs.Locals.{LocalIsReadable}
 use Rattle.ns_machine_frames.specs.declared.registers.Registers.{Registers}
 use Rattle.ns_machine_frames.specs.declared.stack.Stack.{Stack}
 use Rattle.ns_machine_frames.specs.Standing.{locals_in}

@@ -4,9 +4,9 @@ use Rattle.std.specs.Option.{ForSome}
 use Rattle.ns_base.specs.declared.place.Place.{Place as SourcePlace}
 use Rattle.ns_code.specs.declared.program.CodeProgram.{CodeProgram}
 use Rattle.ns_facets.specs.declared.row.Grants.{Grants}
-use Rattle.ns_machine_moves.specs.Steps.{PlacedInstr, steps_of}
-use Rattle.ns_machine_moves.specs.Move.{move}
-use Rattle.ns_machine_moves.specs.Valid.{Valid}
+use Rattle.ns_moves.specs.Steps.{PlacedInstr, steps_of}
+use Rattle.ns_moves.specs.Move.{move}
+use Rattle.ns_moves.specs.Valid.{Valid}
 use Rattle.ns_machine_frames.specs.declared.frame.Frame.TheVariants.{Running}
 use Rattle.ns_machine_frames.specs.declared.frame.RunningFrame.{RunningFrame}
 use Rattle.ns_machine_frames.specs.declared.registers.Registers.{Registers}

@@ -4,7 +4,7 @@ use Rattle.ns_base.specs.declared.place.Place.{Place as SourcePlace}
 use Rattle.ns_code.specs.declared.program.CodeProgram.{CodeProgram}
 use Rattle.ns_code.specs.Selector.{own_number}
 use Rattle.ns_code.specs.declared.own.Own.TheVariants.{PackageUsing, MainArgs, DoesNotUnderstand}
-use Rattle.ns_machine_moves.specs.Steps.{opening_place}
+use Rattle.ns_moves.specs.Steps.{opening_place}
 use Rattle.ns_machine_core.specs.declared.own.OwnSends.{OwnSends}
 
 -- These are the numbers of the code's own selectors, and of the place of its opening sends.

@@ -1,9 +1,9 @@
 -- The state of a run that a machine shows.
 use Rattle.ns_code.specs.declared.program.CodeProgram.{CodeProgram}
-use Rattle.ns_actions.specs.Control.{Progress}
-use Rattle.ns_machine_moves.specs.State as state
-use Rattle.ns_machine_moves.specs.State.{State, Going, Ended}
-use Rattle.ns_actions.specs.Run.{progress_of}
+use Rattle.ns_moves.specs.Control.{Progress}
+use Rattle.ns_moves.specs.State as state
+use Rattle.ns_moves.specs.State.{State, Going, Ended}
+use Rattle.ns_moves.specs.Run.{progress_of}
 use Rattle.ns_machine_frames.specs.Stack.{stood}
 use Rattle.ns_machine_frames.specs.View.{frames_shown, state_shown}
 use Rattle.ns_machine_core.specs.declared.state.Phase.{Phase}

@@ -3,7 +3,7 @@ use Rattle.std.specs.Prelude.{◌≡◌, ℕ, ◌+◌, ◌*◌, ◌≤◌, List,
 use Rattle.ns_code.specs.declared.program.CodeProgram.{CodeProgram}
 use Rattle.ns_code.specs.Selector.{text_arity}
 use Rattle.ns_find.specs.Memo.{PlaceIsRight}
-use Rattle.ns_actions.specs.Room.{HasCellRoom, SameRest}
+use Rattle.ns_moves.specs.Room.{HasCellRoom, SameRest}
 use Rattle.ns_machine_frames.specs.declared.registers.Registers.{Registers}
 use Rattle.ns_machine_frames.specs.declared.stack.Stack.{Stack}
 use Rattle.ns_machine_frames.specs.declared.frame.Pending.{Pending}
@@ -13,7 +13,7 @@ use Rattle.ns_machine_frames.specs.Room.{FramesFitWithin, bound}
 use Rattle.ns_machine_core.specs.declared.state.Core.{Core}
 use Rattle.ns_machine_core.specs.declared.state.Next.{Next}
 use Rattle.ns_machine_core.specs.declared.state.Next.TheVariants as next
-use Rattle.ns_actions.specs.Bodies.{height_in, greatest_of}
+use Rattle.ns_moves.specs.Bodies.{height_in, greatest_of}
 
 -- the most arguments that a selector of these names takes, or one that the machine sends by itself
 abbrev pub most_arguments : List (List ℕ) → ℕ

@@ -1,9 +1,9 @@
 -- A turn, move by move.
 use Rattle.std.specs.Prelude.{◌≡◌, ℕ, zero, suc, true, false}
 use Rattle.ns_code.specs.declared.program.CodeProgram.{CodeProgram}
-use Rattle.ns_machine_moves.specs.State.{State}
-use Rattle.ns_machine_moves.specs.Move.{move}
-use Rattle.ns_machine_moves.specs.Turn.{is_still, charges, Turns}
+use Rattle.ns_moves.specs.State.{State}
+use Rattle.ns_moves.specs.Move.{move}
+use Rattle.ns_moves.specs.Turn.{is_still, charges, Turns}
 
 -- Whatever ends a turn of the steps that are left, from a state on, ends one of all steps from the first state on.
 abbrev pub EndsTheWhole : CodeProgram → ℕ → State → ℕ → State → Type 0

@@ -1,9 +1,9 @@
 //! Where an action's end leads: into the body that it reached, or into a method of the kernel.
 
 ghost use Rattle.std.specs.Prelude.{◌≡◌, [], drop};
-ghost use Rattle.ns_actions.specs.declared.control.Given.TheVariants.{Listed};
+ghost use Rattle.ns_moves.specs.declared.control.Given.TheVariants.{Listed};
 ghost use Rattle.ns_machine_frames.specs.Stack.{in_use};
-ghost use Rattle.ns_actions.specs.declared.control.Reached.TheVariants as reached;
+ghost use Rattle.ns_moves.specs.declared.control.Reached.TheVariants as reached;
 ghost use Rattle.ns_machine_frames.specs.Calls.{leaving_of, arguments_of};
 ghost use Rattle.ns_machine_core.specs.declared.state.Next.TheVariants as next;
 ghost use Rattle.ns_machine_core.specs.Standing.{AreStanding, ArgumentsWait};
@@ -11,12 +11,12 @@ ghost use Rattle.ns_machine_core.specs.Arriving as spec;
 ghost use Rattle.ns_machine_core.specs.Arriving.{reached_at, CanBegin, CanEnter, Arrives};
 
 use crate::state::{Core, Next};
-use ns_actions::control::{Entered, Exit};
 use ns_code::program::CodeProgram;
 use ns_machine_frames::calls::{BodyShape, Call};
 use ns_machine_frames::frame::{KeptSite, LoopingFrame, Pending};
 use ns_machine_frames::laws::{frames_begin, frames_have_room};
 use ns_machine_frames::registers::Registers;
+use ns_moves::control::{Entered, Exit};
 use ns_world::value::Value;
 
 /// What code says of a body.

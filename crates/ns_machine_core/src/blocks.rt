@@ -9,9 +9,9 @@ ghost use Rattle.ns_machine_core.specs.Tried.{DoesOrNot};
 use crate::giving::give;
 use crate::settling::{running, running_code};
 use crate::state::Core;
-use ns_actions::cells::new_block;
 use ns_code::program::CodeProgram;
 use ns_machine_frames::registers::Registers;
+use ns_moves::cells::new_block;
 
 /// Pushes a new block of a body that stands in the one that runs.
 #[inline(always)]

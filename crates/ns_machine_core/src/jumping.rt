@@ -12,7 +12,7 @@ use crate::state::{Core, Next};
 use ns_code::program::CodeProgram;
 use ns_machine_frames::registers::Registers;
 use ns_machine_frames::stack::Stack;
-use ns_machine_moves::laws::jumps_go_back;
+use ns_moves::move_laws::jumps_go_back;
 use ns_world::ending::{Ending, Fault, Kind};
 use ns_world::value::Value;
 

@@ -16,7 +16,7 @@ pub fn valid_runs_have_a_next_step()
 {
     ns_verify::laws::heights_agree();
     ns_verify::laws::sound_instructions_are_usable();
-    ns_machine_moves::valid_frames::moves_keep_frames_valid();
+    ns_moves::valid_frames::moves_keep_frames_valid();
 }
 
 /// What holds of a machine at every moment holds after each of its moves: the state stays valid, the memory is enough,
@@ -27,8 +27,8 @@ pub fn moves_keep_machines_ready()
     ensures done { (code : CodeProgram) → DoneIsMoved code }
 {
     ns_verify::laws::heights_agree();
-    ns_machine_moves::valid_frames::moves_keep_valid();
-    ns_machine_moves::laws::moves_go_onward();
+    ns_moves::valid_frames::moves_keep_valid();
+    ns_moves::move_laws::moves_go_onward();
     ns_find::laws::lookups_stay();
 }
 
@@ -38,8 +38,8 @@ pub fn passing_keeps_machines_ready()
     ensures moves { (code : CodeProgram) (grants : Grants) → PassingKeepsReady code grants }
     ensures done { (code : CodeProgram) → DoneIsPassed code }
 {
-    ns_machine_moves::valid_frames::moves_keep_valid();
-    ns_machine_moves::laws::moves_go_onward();
+    ns_moves::valid_frames::moves_keep_valid();
+    ns_moves::move_laws::moves_go_onward();
     ns_find::laws::lookups_stay();
 }
 

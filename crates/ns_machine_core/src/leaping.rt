@@ -12,7 +12,7 @@ use crate::led::Led;
 use crate::state::Core;
 use ns_code::program::CodeProgram;
 use ns_machine_frames::registers::Registers;
-use ns_machine_moves::laws::jumps_go_back;
+use ns_moves::move_laws::jumps_go_back;
 use ns_world::value::Value;
 
 /// Takes a jump, unless it charges a step and none is left.

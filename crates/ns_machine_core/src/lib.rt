@@ -1,6 +1,6 @@
 //! The plain instructions of the machine, over a run's world, frames and values.
 //! `specs/Doing.antt` says what each does: the state that it shows is the one of ns_machine_moves.
-//! Stands on ns_actions and ns_machine_frames; ns_machine_turns picks its functions.
+//! Stands on ns_moves and ns_machine_frames; ns_machine_turns picks its functions.
 #![tactic(auto)]
 
 pub mod arriving;

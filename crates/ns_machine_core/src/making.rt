@@ -3,15 +3,15 @@
 ghost use Rattle.std.specs.Prelude.{◌≡◌, Option};
 ghost use Rattle.ns_base.specs.declared.place.Place.{Place as SourcePlace};
 ghost use Rattle.ns_code.specs.declared.instruction.Instr.TheVariants as instr;
-ghost use Rattle.ns_machine_moves.specs.Steps as steps;
+ghost use Rattle.ns_moves.specs.Steps as steps;
 ghost use Rattle.ns_machine_core.specs.Doing.{CanDo, IsDone};
 
 use crate::settling::{running, running_code, settle};
 use crate::state::{Core, Next};
-use ns_actions::cells::{new_array, new_block, new_text};
 use ns_code::program::CodeProgram;
 use ns_machine_frames::laws::operands_are_taken;
 use ns_machine_frames::registers::Registers;
+use ns_moves::cells::{new_array, new_block, new_text};
 
 /// Pushes a new block of a body that stands in the one that runs.
 #[inline(always)]

@@ -4,9 +4,9 @@ ghost use Rattle.ns_machine_core.specs.Doing.{IsRunning};
 ghost use Rattle.ns_machine_core.specs.Straight.{IsOnTop};
 
 use crate::settling::running;
-use ns_actions::running::has_environment;
 use ns_code::program::CodeProgram;
 use ns_machine_frames::stack::Stack;
+use ns_moves::running::has_environment;
 
 /// The body that runs on top, as far as its steps ask for it again and again: its number, and whether its locals stand in an
 /// environment.

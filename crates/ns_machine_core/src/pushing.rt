@@ -8,10 +8,10 @@ ghost use Rattle.ns_machine_core.specs.Doing.{CanDo, IsDone};
 
 use crate::settling::{push, running, running_code};
 use crate::state::Core;
-use ns_actions::enclosing::enclosing_object;
 use ns_base::selector::Sel;
 use ns_code::program::CodeProgram;
 use ns_machine_frames::registers::Registers;
+use ns_moves::enclosing::enclosing_object;
 use ns_world::value::Value;
 
 /// Pushes nil.

@@ -1,7 +1,7 @@
 //! Values that are pushed on the operands of the body that runs, and what becomes of the answers of actions.
 
 ghost use Rattle.std.specs.Prelude.{◌≡◌, ◌∷◌, ◌<◌, length};
-ghost use Rattle.ns_actions.specs.Site.{fault_ending};
+ghost use Rattle.ns_moves.specs.Site.{fault_ending};
 ghost use Rattle.ns_machine_frames.specs.declared.frame.Frame.TheVariants.{Running as RunningFrameOf};
 ghost use Rattle.ns_machine_frames.specs.Standing.{below};
 ghost use Rattle.ns_machine_frames.specs.View.{site_shown};
@@ -10,12 +10,12 @@ ghost use Rattle.ns_machine_core.specs.Standing.{AreStanding};
 
 use crate::places::Places;
 use crate::state::{Core, Next};
-use ns_actions::control::Answer;
-use ns_actions::running::Running;
 use ns_code::program::CodeProgram;
 use ns_machine_frames::frame::{Activation, Frame, KeptSite, RunningFrame};
 use ns_machine_frames::registers::Registers;
 use ns_machine_frames::stack::Stack;
+use ns_moves::control::Answer;
+use ns_moves::running::Running;
 use ns_world::ending::{Ending, Fault, RunError};
 use ns_world::value::Value;
 

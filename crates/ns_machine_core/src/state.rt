@@ -1,11 +1,11 @@
 //! What a machine keeps of a run beside its registers, and where an instruction leads.
 
 use crate::places::Places;
-use ns_actions::run::Run;
 use ns_machine_frames::arguments::Arguments;
 use ns_machine_frames::frame::Pending;
 use ns_machine_frames::registers::Registers;
 use ns_machine_frames::stack::Stack;
+use ns_moves::run::Run;
 use ns_world::ending::Ending;
 
 /// How far a run has come: nothing was begun; it answers the first opening send, after which the second is sent with the

@@ -8,10 +8,10 @@ ghost use Rattle.ns_machine_core.specs.Doing.{CanDo, IsDone};
 
 use crate::settling::{running, running_code};
 use crate::state::Core;
-use ns_actions::finding::enclosing_objects_are_there;
-use ns_actions::slots::fill_slot;
 use ns_code::program::CodeProgram;
 use ns_machine_frames::registers::Registers;
+use ns_moves::finding::enclosing_objects_are_there;
+use ns_moves::slots::fill_slot;
 
 /// Takes the topmost operand off and fills a slot of self with it.
 #[inline(always)]

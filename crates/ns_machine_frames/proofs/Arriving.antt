@@ -5,18 +5,18 @@ use Rattle.ns_code.specs.declared.program.CodeProgram.{CodeProgram}
 use Rattle.ns_world.specs.declared.value.Value.{Value}
 use Rattle.ns_world.specs.declared.value.Value.TheVariants.{Nil}
 use Rattle.ns_world.specs.Heap.{Heap}
-use Rattle.ns_actions.specs.declared.control.Exit.{Exit as ExitKind}
-use Rattle.ns_actions.specs.declared.control.Exit.TheVariants as exit
-use Rattle.ns_actions.specs.declared.control.Entered.{Entered}
-use Rattle.ns_actions.specs.declared.control.Reached.TheVariants as reached
-use Rattle.ns_actions.specs.declared.control.PartReached.TheVariants as part
-use Rattle.ns_actions.specs.Control.{Progress}
-use Rattle.ns_actions.specs.Bodies.{has_environment, locals_of}
-use Rattle.ns_actions.specs.Shown.{given_values, passed, exit_shown, locals_shown, reached_shown, part_shown}
-use Rattle.ns_machine_moves.specs.State as state
-use Rattle.ns_machine_moves.specs.State.{Loud, Phase, Going}
-use Rattle.ns_machine_moves.specs.Steps.{steps_of}
-use Rattle.ns_machine_moves.specs.Arrivals.{arrived, part_arrived}
+use Rattle.ns_moves.specs.declared.control.Exit.{Exit as ExitKind}
+use Rattle.ns_moves.specs.declared.control.Exit.TheVariants as exit
+use Rattle.ns_moves.specs.declared.control.Entered.{Entered}
+use Rattle.ns_moves.specs.declared.control.Reached.TheVariants as reached
+use Rattle.ns_moves.specs.declared.control.PartReached.TheVariants as part
+use Rattle.ns_moves.specs.Control.{Progress}
+use Rattle.ns_moves.specs.Bodies.{has_environment, locals_of}
+use Rattle.ns_moves.specs.Shown.{given_values, passed, exit_shown, locals_shown, reached_shown, part_shown}
+use Rattle.ns_moves.specs.State as state
+use Rattle.ns_moves.specs.State.{Loud, Phase, Going}
+use Rattle.ns_moves.specs.Steps.{steps_of}
+use Rattle.ns_moves.specs.Arrivals.{arrived, part_arrived}
 use Rattle.ns_machine_frames.specs.declared.frame.KeptSite.{KeptSite}
 use Rattle.ns_machine_frames.specs.declared.frame.Leaving.{Leaving}
 use Rattle.ns_machine_frames.specs.declared.frame.Leaving.TheVariants.{Part}

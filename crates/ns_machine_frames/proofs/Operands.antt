@@ -4,8 +4,8 @@ use Rattle.std.specs.List.{slice_index_or}
 use Rattle.std.proofs.lemmas.List.{reverse-append, append_assoc, reverse-reverse, append-nil, length-reverse}
 use Rattle.ns_world.specs.declared.value.Value.{Value}
 use Rattle.ns_world.specs.declared.value.Value.TheVariants.{Nil}
-use Rattle.ns_machine_moves.specs.State.{State}
-use Rattle.ns_machine_moves.specs.Operands.{taken_off, picked}
+use Rattle.ns_moves.specs.State.{State}
+use Rattle.ns_moves.specs.Operands.{taken_off, picked}
 
 -- from the topmost down, before those that were taken already
 taken_down : (missing : State) (down values stack : List Value) (go : List Value → List Value → State)

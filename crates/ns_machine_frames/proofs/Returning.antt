@@ -4,9 +4,9 @@ use Rattle.std.proofs.lemmas.Option.{same_Some}
 use Rattle.ns_base.specs.declared.place.Place.{Place as SourcePlace}
 use Rattle.ns_code.specs.declared.program.CodeProgram.{CodeProgram}
 use Rattle.ns_world.specs.declared.value.Value.{Value}
-use Rattle.ns_actions.specs.Control.{Progress, frame_left}
-use Rattle.ns_machine_moves.specs.State.{Phase, Going}
-use Rattle.ns_machine_moves.specs.Returns as returns
+use Rattle.ns_moves.specs.Control.{Progress, frame_left}
+use Rattle.ns_moves.specs.State.{Phase, Going}
+use Rattle.ns_moves.specs.Returns as returns
 use Rattle.ns_machine_frames.specs.declared.frame.Frame.{Frame}
 use Rattle.ns_machine_frames.specs.declared.frame.Frame.TheVariants.{Running, Looping}
 use Rattle.ns_machine_frames.specs.declared.frame.Leaving.{Leaving}

@@ -2,7 +2,7 @@
 use Rattle.std.proofs.Common.{◌≡◌, ℕ, ℤ, ◌+◌, ◌-◌, ◌<◌, List, [], ◌∷◌, length, get_or, set, reverse, ap, sym, ◌∙◌, refl, arith}
 use Rattle.std.proofs.lemmas.List.{get_or-reverse, set_at, reverse-append, reverse-reverse, length-reverse}
 use Rattle.ns_world.specs.declared.value.Value.{Value}
-use Rattle.ns_actions.specs.Blocks.{waiting}
+use Rattle.ns_moves.specs.Blocks.{waiting}
 use Rattle.ns_machine_frames.specs.declared.frame.Frame.{Frame}
 use Rattle.ns_machine_frames.specs.declared.frame.Frame.TheVariants.{Running, Looping}
 use Rattle.ns_machine_frames.specs.declared.frame.RunningFrame.{RunningFrame}

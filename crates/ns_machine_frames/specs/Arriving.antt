@@ -5,15 +5,15 @@ use Rattle.ns_code.specs.declared.program.CodeProgram.{CodeProgram}
 use Rattle.ns_world.specs.declared.value.Value.{Value}
 use Rattle.ns_world.specs.declared.kernel_parts.KMethod.{KMethod}
 use Rattle.ns_kcode.specs.declared.state.KState.{KState}
-use Rattle.ns_actions.specs.declared.control.Exit.{Exit}
-use Rattle.ns_actions.specs.declared.control.Entered.{Entered}
-use Rattle.ns_actions.specs.declared.control.Reached.TheVariants as reached
-use Rattle.ns_actions.specs.declared.control.PartReached.TheVariants as part
-use Rattle.ns_actions.specs.Control.{Progress}
-use Rattle.ns_actions.specs.Bodies.{has_environment, parameters_of, locals_of}
-use Rattle.ns_actions.specs.Shown.{given_values, passed, reached_shown, part_shown}
-use Rattle.ns_machine_moves.specs.State.{Phase, Going}
-use Rattle.ns_machine_moves.specs.Arrivals.{arrived, part_arrived}
+use Rattle.ns_moves.specs.declared.control.Exit.{Exit}
+use Rattle.ns_moves.specs.declared.control.Entered.{Entered}
+use Rattle.ns_moves.specs.declared.control.Reached.TheVariants as reached
+use Rattle.ns_moves.specs.declared.control.PartReached.TheVariants as part
+use Rattle.ns_moves.specs.Control.{Progress}
+use Rattle.ns_moves.specs.Bodies.{has_environment, parameters_of, locals_of}
+use Rattle.ns_moves.specs.Shown.{given_values, passed, reached_shown, part_shown}
+use Rattle.ns_moves.specs.State.{Phase, Going}
+use Rattle.ns_moves.specs.Arrivals.{arrived, part_arrived}
 use Rattle.ns_machine_frames.specs.declared.frame.KeptSite.{KeptSite}
 use Rattle.ns_machine_frames.specs.declared.frame.Leaving.TheVariants.{Part}
 use Rattle.ns_machine_frames.specs.declared.calls.BodyShape.{BodyShape}

@@ -2,11 +2,11 @@
 use Rattle.std.specs.Prelude.{◌≡◌, ℕ, ◌+◌, ◌-◌, ◌<◌, ◌≤◌, List, [], ◌∷◌, ◌++◌, length, drop, replicate, false, if◌then◌else◌}
 use Rattle.ns_world.specs.declared.value.Value.{Value}
 use Rattle.ns_world.specs.declared.value.Value.TheVariants.{Nil, Ref}
-use Rattle.ns_actions.specs.declared.control.Given.{Given}
-use Rattle.ns_actions.specs.declared.control.Given.TheVariants.{Listed, Message, Items}
-use Rattle.ns_actions.specs.declared.control.Exit.{Exit}
-use Rattle.ns_actions.specs.declared.control.Exit.TheVariants as exit
-use Rattle.ns_actions.specs.declared.control.Entered.{Entered}
+use Rattle.ns_moves.specs.declared.control.Given.{Given}
+use Rattle.ns_moves.specs.declared.control.Given.TheVariants.{Listed, Message, Items}
+use Rattle.ns_moves.specs.declared.control.Exit.{Exit}
+use Rattle.ns_moves.specs.declared.control.Exit.TheVariants as exit
+use Rattle.ns_moves.specs.declared.control.Entered.{Entered}
 use Rattle.ns_machine_frames.specs.declared.frame.KeptSite.{KeptSite}
 use Rattle.ns_machine_frames.specs.declared.frame.Leaving.{Leaving}
 use Rattle.ns_machine_frames.specs.declared.frame.Leaving.TheVariants as leaving

@@ -5,10 +5,10 @@ use Rattle.ns_base.specs.declared.place.Place.{Place as SourcePlace}
 use Rattle.ns_code.specs.declared.program.CodeProgram.{CodeProgram}
 use Rattle.ns_world.specs.declared.value.Value.{Value}
 use Rattle.ns_world.specs.declared.value.Value.TheVariants.{Nil}
-use Rattle.ns_actions.specs.Control.{Progress, frame_left}
-use Rattle.ns_machine_moves.specs.State.{Phase, State, Going}
-use Rattle.ns_machine_moves.specs.Operands.{taken_off, picked}
-use Rattle.ns_machine_moves.specs.Returns as returns
+use Rattle.ns_moves.specs.Control.{Progress, frame_left}
+use Rattle.ns_moves.specs.State.{Phase, State, Going}
+use Rattle.ns_moves.specs.Operands.{taken_off, picked}
+use Rattle.ns_moves.specs.Returns as returns
 use Rattle.ns_machine_frames.specs.declared.frame.Frame.{Frame}
 use Rattle.ns_machine_frames.specs.Standing.{Stood, standing, at_next}
 use Rattle.ns_machine_frames.specs.Leaving.{delivered, frames_to}

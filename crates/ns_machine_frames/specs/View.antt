@@ -4,11 +4,11 @@ use Rattle.ns_base.specs.declared.place.Place.{Place as SourcePlace}
 use Rattle.ns_code.specs.declared.program.CodeProgram.{CodeProgram}
 use Rattle.ns_world.specs.declared.value.Value.{Value}
 use Rattle.ns_world.specs.Heap.{cell_number}
-use Rattle.ns_actions.specs.declared.site.Site.{Site}
-use Rattle.ns_actions.specs.Control.{Progress, Activation, FromMethod, FromBody, FromClause}
-use Rattle.ns_machine_moves.specs.Steps.{steps_from}
-use Rattle.ns_machine_moves.specs.State as state
-use Rattle.ns_machine_moves.specs.State.{Loud, Silent, Sending, Performing, Evaluating, Phase, State, Going, Pends}
+use Rattle.ns_moves.specs.declared.site.Site.{Site}
+use Rattle.ns_moves.specs.Control.{Progress, Activation, FromMethod, FromBody, FromClause}
+use Rattle.ns_moves.specs.Steps.{steps_from}
+use Rattle.ns_moves.specs.State as state
+use Rattle.ns_moves.specs.State.{Loud, Silent, Sending, Performing, Evaluating, Phase, State, Going, Pends}
 use Rattle.ns_machine_frames.specs.declared.registers.Registers.{Registers}
 use Rattle.ns_machine_frames.specs.declared.stack.Stack.{Stack}
 use Rattle.ns_machine_frames.specs.declared.frame.KeptSite.{KeptSite}

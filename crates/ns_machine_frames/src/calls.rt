@@ -7,7 +7,7 @@ ghost use Rattle.ns_machine_frames.specs.Calls.{leaving_of, activation_of, local
 use crate::frame::{Activation, KeptSite, Layout, Leaving};
 use crate::registers::Registers;
 use crate::stack::Stack;
-use ns_actions::control::{Entered, Exit, Given};
+use ns_moves::control::{Entered, Exit, Given};
 use ns_world::value::Value;
 
 /// What code says of a body: how many parameters it has, and how many parameters and locals; whether these stand in an

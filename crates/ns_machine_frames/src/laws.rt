@@ -4,7 +4,7 @@
 ghost use Rattle.std.specs.Prelude.{ℕ, List};
 ghost use Rattle.ns_base.specs.declared.place.Place.{Place as SourcePlace};
 ghost use Rattle.ns_code.specs.declared.program.CodeProgram.{CodeProgram};
-ghost use Rattle.ns_machine_moves.specs.State.{Phase, State};
+ghost use Rattle.ns_moves.specs.State.{Phase, State};
 ghost use Rattle.ns_machine_frames.specs.Room.{OneMoreFits, TopIsWithin, EnteringKeeps, DepthGivesRoom, OthersKeep};
 ghost use Rattle.ns_machine_frames.specs.Arriving.{BodiesBegin, PartsBegin, MethodsBegin};
 ghost use Rattle.ns_machine_frames.specs.Stated.{ComeOffAgain, IsPicked, ValueIsDelivered, FindsHome, Unwinds};

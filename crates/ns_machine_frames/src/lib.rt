@@ -1,6 +1,6 @@
 //! The frames and values of the machine in one row, with its registers.
 //! `specs/Standing.antt` says how frames stand there, each with its locals and its operands.
-//! Stands between ns_machine_moves and ns_machine_core.
+//! Stands between ns_moves and ns_machine_core.
 #![tactic(auto)]
 
 pub mod arguments;

@@ -7,11 +7,11 @@ use Rattle.ns_code.specs.declared.program.CodeProgram.{CodeProgram}
 use Rattle.ns_world.specs.declared.value.Value.{Value}
 use Rattle.ns_code.specs.declared.body.BodyCode.{BodyCode}
 use Rattle.ns_code.specs.declared.instruction.Instr.TheVariants.{ReturnSelf}
-use Rattle.ns_actions.specs.declared.site.Site.{Site}
-use Rattle.ns_machine_moves.specs.State as state
-use Rattle.ns_machine_moves.specs.Steps.{placed, steps_of, steps_from}
-use Rattle.ns_machine_moves.specs.ValidFrames.{next_number}
-use Rattle.ns_machine_moves.specs.laws.Steps.{placed_length}
+use Rattle.ns_moves.specs.declared.site.Site.{Site}
+use Rattle.ns_moves.specs.State as state
+use Rattle.ns_moves.specs.Steps.{placed, steps_of, steps_from}
+use Rattle.ns_moves.specs.ValidFrames.{next_number}
+use Rattle.ns_moves.specs.laws.Steps.{placed_length}
 use Rattle.ns_machine_frames.specs.declared.frame.Frame.{Frame}
 use Rattle.ns_machine_frames.specs.declared.frame.Frame.TheVariants.{Running, Looping}
 use Rattle.ns_machine_frames.specs.declared.frame.RunningFrame.{RunningFrame}

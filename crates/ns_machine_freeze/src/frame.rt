@@ -3,15 +3,13 @@
 ghost use Rattle.std.specs.Prelude.{◌≡◌, ◌+◌, length, take, IfOk};
 ghost use Rattle.ns_machine_frames.specs.declared.frame.Frame.TheVariants.{Running as RunningFrameOf, Looping as LoopingFrameOf};
 ghost use Rattle.ns_machine_frames.specs.View.{site_shown, leaving_shown, frame_shown};
-ghost use Rattle.ns_machine_moves.specs.Steps.{steps_from};
-ghost use Rattle.ns_machine_moves.specs.ValidFrames.{next_number};
+ghost use Rattle.ns_moves.specs.Steps.{steps_from};
+ghost use Rattle.ns_moves.specs.ValidFrames.{next_number};
 ghost use Rattle.ns_frozen.specs.Freezing.{kind_frozen, instr_frozen, frame_frozen};
-ghost use Rattle.ns_actions.specs.Fitting.{kind_of};
+ghost use Rattle.ns_moves.specs.Fitting.{kind_of};
 ghost use Rattle.ns_world.specs.Heap.{cell_number};
 ghost use Rattle.ns_machine_freeze.specs.Down.{count_of, stood_one, IsLaidTo};
 
-use ns_actions::running::NO_HOME;
-use ns_actions::site::Site;
 use ns_base::items::Items;
 use ns_base::no_memory::NoMemory;
 use ns_code::kinds::{BLOCK, CLAUSE};
@@ -20,6 +18,8 @@ use ns_frozen::frame::{FrameKind, FrozenFrame};
 use ns_machine_core::places::Places;
 use ns_machine_core::state::Core;
 use ns_machine_frames::frame::{Activation, Frame, KeptSite, Leaving, LoopingFrame, RunningFrame};
+use ns_moves::running::NO_HOME;
+use ns_moves::site::Site;
 use ns_world::kernel::NO_CLASS;
 use ns_world::value::Value;
 use std::alloc::Global;

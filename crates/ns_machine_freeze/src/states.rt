@@ -2,7 +2,7 @@
 
 ghost use Rattle.std.specs.Prelude.{◌≡◌, ℕ, true, None, Some, IfOk};
 ghost use Rattle.ns_code.specs.declared.program.CodeProgram.{CodeProgram as Code};
-ghost use Rattle.ns_machine_moves.specs.State.{Unbegun};
+ghost use Rattle.ns_moves.specs.State.{Unbegun};
 ghost use Rattle.ns_machine_frames.specs.Stack.{with_top, stood, IsLaid};
 ghost use Rattle.ns_machine_frames.specs.View.{frames_shown};
 ghost use Rattle.ns_machine_core.specs.declared.state.Next.TheVariants as next;

@@ -1,7 +1,7 @@
 //! What waits, as plain data.
 
 ghost use Rattle.std.specs.Prelude.{◌≡◌, ◌≤◌, drop, IfOk};
-ghost use Rattle.ns_machine_moves.specs.State as state;
+ghost use Rattle.ns_moves.specs.State as state;
 ghost use Rattle.ns_machine_frames.specs.Stack.{in_use, IsLaid};
 ghost use Rattle.ns_machine_frames.specs.View.{site_shown};
 ghost use Rattle.ns_frozen.specs.Freezing.{pending_frozen};

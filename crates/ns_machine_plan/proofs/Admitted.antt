@@ -23,10 +23,10 @@ use Rattle.ns_find.specs.Find.{side_of}
 use Rattle.ns_find.specs.Members.{is_named, SetterOf, NamedAs}
 use Rattle.ns_code.specs.Access.{private_access}
 use Rattle.ns_verify_members.specs.Members.{private_selectors}
-use Rattle.ns_actions.specs.Lawful.{declaration_at as around_body, outer_of as around_outer}
+use Rattle.ns_moves.specs.Lawful.{declaration_at as around_body, outer_of as around_outer}
 use Rattle.ns_verify.specs.Causes.{private_side}
 use Rattle.ns_verify.specs.Chains.{declaration_at, outer_of}
-use Rattle.ns_actions.specs.Bodies.{enclosing}
+use Rattle.ns_moves.specs.Bodies.{enclosing}
 use Rattle.ns_world.specs.Heap.{Heap}
 use Rattle.ns_machine_plan.specs.declared.step.Member.{Member}
 use Rattle.ns_machine_plan.specs.declared.step.Member.TheVariants.{Method, Getter, Setter, Nested, Absent}

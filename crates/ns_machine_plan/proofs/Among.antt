@@ -12,8 +12,8 @@ use Rattle.ns_find.specs.declared.members.Side.{Side}
 use Rattle.ns_find.specs.declared.members.Side.TheVariants.{Instance as InstanceSide, Class as ClassSide}
 use Rattle.ns_find.specs.Members.{is_named, NamedAs}
 use Rattle.ns_code.specs.Access.{private_access}
-use Rattle.ns_actions.specs.Bodies.{enclosing}
-use Rattle.ns_actions.specs.Lawful.{declaration_at}
+use Rattle.ns_moves.specs.Bodies.{enclosing}
+use Rattle.ns_moves.specs.Lawful.{declaration_at}
 use Rattle.ns_machine_plan.specs.declared.step.Member.{Member}
 use Rattle.ns_machine_plan.specs.declared.step.Member.TheVariants.{Method, Getter, Setter, Nested, Absent}
 use Rattle.ns_machine_plan.specs.Privates.{SlotIsAmong, reads, writes, slots_member, nested_member, method_member, side_member, private_member, declaration_out, level_side, member_at}

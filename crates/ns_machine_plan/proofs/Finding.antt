@@ -22,9 +22,9 @@ use Rattle.ns_find.specs.declared.members.Side.TheVariants.{Instance as Instance
 use Rattle.ns_find.specs.Find.{found_private, side_of}
 use Rattle.ns_find.specs.Members.{Member as FoundMember, is_named, NamedAs, search, slots_members, nested_members, method_members, side_members}
 use Rattle.ns_code.specs.Access.{private_access}
-use Rattle.ns_actions.specs.Bodies.{enclosing, side_at}
-use Rattle.ns_actions.specs.Control.{Activation}
-use Rattle.ns_actions.specs.Lawful.{FitsActivation, declaration_at, outer_of}
+use Rattle.ns_moves.specs.Bodies.{enclosing, side_at}
+use Rattle.ns_moves.specs.Control.{Activation}
+use Rattle.ns_moves.specs.Lawful.{FitsActivation, declaration_at, outer_of}
 use Rattle.ns_machine_plan.specs.declared.step.Member.{Member}
 use Rattle.ns_machine_plan.specs.declared.step.Member.TheVariants.{Method, Getter, Setter, Nested, Absent}
 use Rattle.ns_machine_plan.specs.Privates.{found_in, reads, writes, slots_member, nested_member, method_member, side_member, private_member, declaration_out, level_side, member_at}

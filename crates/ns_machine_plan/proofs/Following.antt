@@ -11,9 +11,9 @@ use Rattle.ns_code.specs.declared.instruction.Instr.TheVariants as i
 use Rattle.ns_verify.specs.Verify.{IsSound}
 use Rattle.ns_verify.specs.Places.{HasNoCause, HeightsAgree}
 use Rattle.ns_verify.specs.Uses.{IsUsable}
-use Rattle.ns_machine_moves.specs.Steps as moves
-use Rattle.ns_machine_moves.specs.Steps.{steps_of}
-use Rattle.ns_machine_moves.specs.ValidFrames.{Nothing, Stands, next_number}
+use Rattle.ns_moves.specs.Steps as moves
+use Rattle.ns_moves.specs.Steps.{steps_of}
+use Rattle.ns_moves.specs.ValidFrames.{Nothing, Stands, next_number}
 use Rattle.ns_machine_plan.specs.declared.step.Step.{Step}
 use Rattle.ns_machine_plan.specs.Steps.{instr_of}
 use Rattle.ns_machine_plan.specs.Plan.{HasStep, IsStepAt}

@@ -13,8 +13,8 @@ use Rattle.ns_code.specs.declared.instruction.Instr.{Instr}
 use Rattle.ns_code.specs.declared.instruction.Instr.TheVariants as i
 use Rattle.ns_code.specs.Fits.{Fits, BodyFits, PlaceFits}
 use Rattle.ns_code.specs.Instructions.{carries_place}
-use Rattle.ns_machine_moves.specs.Steps as moves
-use Rattle.ns_machine_moves.specs.Steps.{place_in, placed, steps_of, steps_from}
+use Rattle.ns_moves.specs.Steps as moves
+use Rattle.ns_moves.specs.Steps.{place_in, placed, steps_of, steps_from}
 use Rattle.ns_machine_plan.specs.declared.step.Step.{Step}
 use Rattle.ns_machine_plan.specs.declared.step.Step.TheVariants.{Pop}
 use Rattle.ns_machine_plan.specs.Steps.{no_place, place_number, step_of, prepared, all_steps, places_in, all_places, places_of, step_shown, HasItsMember}

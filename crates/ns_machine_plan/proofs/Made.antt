@@ -14,7 +14,7 @@ use Rattle.ns_machine_plan.specs.Steps.{no_place, prepared, all_steps, all_place
 use Rattle.ns_machine_plan.specs.Rows.{all_rows, row_of}
 use Rattle.ns_machine_plan.specs.Making.{IsAdded}
 use Rattle.ns_machine_plan.specs.Plan.{IsPlanOf}
-use Rattle.ns_actions.specs.Bodies.{greatest_of}
+use Rattle.ns_moves.specs.Bodies.{greatest_of}
 
 -- what was added, before the bodies that are left
 pub record IsSoFar (code : CodeProgram) (draft : Draft) (left : List BodyCode) : Type 0 where

@@ -3,7 +3,7 @@ use Rattle.std.proofs.Common.{◌≡◌, ◌⊎◌, inl, inr, ℕ, zero, suc, �
 use Rattle.std.proofs.lemmas.Bool.{cases_lt}
 use Rattle.std.proofs.lemmas.List.{length-append}
 use Rattle.ns_code.specs.declared.program.CodeProgram.{CodeProgram}
-use Rattle.ns_actions.specs.Lawful.{outer_of}
+use Rattle.ns_moves.specs.Lawful.{outer_of}
 use Rattle.ns_machine_plan.specs.Outers.{out_from}
 use Rattle.ns_machine_plan.specs.Privates.{declaration_out}
 

@@ -7,7 +7,7 @@ use Rattle.ns_code.specs.declared.program.CodeProgram.{CodeProgram}
 use Rattle.ns_code.specs.declared.body.BodyCode.{BodyCode}
 use Rattle.ns_machine_plan.specs.declared.row.Row.{Row}
 use Rattle.ns_machine_plan.specs.Rows.{entry_in, row_of, all_rows, IsRowOf}
-use Rattle.ns_actions.specs.Bodies.{greatest_of}
+use Rattle.ns_moves.specs.Bodies.{greatest_of}
 
 -- the body of a number that is there
 pub record HasBody (bodies : List BodyCode) (number : ℕ) : Type 0 where

@@ -1,7 +1,7 @@
 -- Declarations around others, level by level and in far steps of sixteen.
 use Rattle.std.specs.Prelude.{◌≡◌, ℕ, zero, suc, ◌<◌, Option, Some, length, slice_get}
 use Rattle.ns_code.specs.declared.program.CodeProgram.{CodeProgram}
-use Rattle.ns_actions.specs.Lawful.{outer_of}
+use Rattle.ns_moves.specs.Lawful.{outer_of}
 use Rattle.ns_machine_plan.specs.declared.outers.Outers.{Outers}
 
 -- the declaration so many levels out from one, if there is one

@@ -5,12 +5,12 @@ use Rattle.ns_code.specs.declared.program.CodeProgram.{CodeProgram}
 use Rattle.ns_code.specs.declared.body.BodyCode.{BodyCode}
 use Rattle.ns_code.specs.Fits.{Fits}
 use Rattle.ns_code.specs.Selectors.{IsTableOf}
-use Rattle.ns_machine_moves.specs.Steps.{steps_of, steps_from}
+use Rattle.ns_moves.specs.Steps.{steps_of, steps_from}
 use Rattle.ns_machine_plan.specs.declared.plan.Plan.{Plan}
 use Rattle.ns_machine_plan.specs.declared.step.Step.{Step}
 use Rattle.ns_machine_plan.specs.Steps.{all_steps, places_of, no_place, place_of, step_shown, HasItsMember}
 use Rattle.ns_machine_plan.specs.Rows.{all_rows}
-use Rattle.ns_actions.specs.Bodies.{greatest_of}
+use Rattle.ns_moves.specs.Bodies.{greatest_of}
 
 -- A plan has the steps, the bodies, the places and the selectors of a code that is sound, and the size of its greatest frame.
 pub record IsPlanOf (code : CodeProgram) (plan : Plan) : Type 0 where

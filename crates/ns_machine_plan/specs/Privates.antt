@@ -18,7 +18,7 @@ use Rattle.ns_find.specs.declared.members.Side.TheVariants.{Instance as Instance
 use Rattle.ns_find.specs.Find.{side_of}
 use Rattle.ns_find.specs.Members.{is_named, SetterOf, NamedAs}
 use Rattle.ns_code.specs.Access.{private_access}
-use Rattle.ns_actions.specs.Lawful.{outer_of}
+use Rattle.ns_moves.specs.Lawful.{outer_of}
 use Rattle.ns_machine_plan.specs.declared.step.Member.{Member}
 use Rattle.ns_machine_plan.specs.declared.step.Member.TheVariants.{Method, Getter, Setter, Nested, Absent}
 

@@ -5,9 +5,9 @@ use Rattle.ns_code.specs.declared.body.BodyCode.{BodyCode}
 use Rattle.ns_code.specs.Soundness.{class_side}
 use Rattle.ns_world.specs.Lawful.{parent_of}
 use Rattle.ns_find.specs.Find.{side_of}
-use Rattle.ns_actions.specs.Bodies.{parameters_of, locals_of, has_environment, side_of_body, height_in}
-use Rattle.ns_actions.specs.Fitting.{environment_body, locals_beside, kind_of}
-use Rattle.ns_actions.specs.Lawful.{declaration_of_body}
+use Rattle.ns_moves.specs.Bodies.{parameters_of, locals_of, has_environment, side_of_body, height_in}
+use Rattle.ns_moves.specs.Fitting.{environment_body, locals_beside, kind_of}
+use Rattle.ns_moves.specs.Lawful.{declaration_of_body}
 use Rattle.ns_machine_plan.specs.declared.row.Row.{Row}
 
 -- where the steps of a body begin among those of all bodies

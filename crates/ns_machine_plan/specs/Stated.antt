@@ -18,14 +18,14 @@ use Rattle.ns_world.specs.Layout.{declaration_of, entries_of}
 use Rattle.ns_world.specs.declared.kernel_parts.DataRow.{DataRow}
 use Rattle.ns_world.specs.declared.kernel_parts.KMethod.{KMethod}
 use Rattle.ns_world.specs.declared.kernel_parts.IntRow.{IntRow}
-use Rattle.ns_actions.specs.Bodies.{enclosing, locals_of, height_in, greatest_of}
-use Rattle.ns_actions.specs.Control.{Progress, Activation}
-use Rattle.ns_actions.specs.Lawful.{FitsActivation, declaration_at}
-use Rattle.ns_actions.specs.Sends.{ToPrivate, found_at}
-use Rattle.ns_machine_moves.specs.State.{Leaving}
-use Rattle.ns_machine_moves.specs.Steps as moves
-use Rattle.ns_machine_moves.specs.Steps.{steps_from}
-use Rattle.ns_machine_moves.specs.ValidFrames.{Nothing, RunningIsValid}
+use Rattle.ns_moves.specs.Bodies.{enclosing, locals_of, height_in, greatest_of}
+use Rattle.ns_moves.specs.Control.{Progress, Activation}
+use Rattle.ns_moves.specs.Lawful.{FitsActivation, declaration_at}
+use Rattle.ns_moves.specs.Sends.{ToPrivate, found_at}
+use Rattle.ns_moves.specs.State.{Leaving}
+use Rattle.ns_moves.specs.Steps as moves
+use Rattle.ns_moves.specs.Steps.{steps_from}
+use Rattle.ns_moves.specs.ValidFrames.{Nothing, RunningIsValid}
 use Rattle.ns_machine_plan.specs.declared.step.Step.{Step}
 use Rattle.ns_machine_plan.specs.declared.step.Member.TheVariants.{Absent}
 use Rattle.ns_machine_plan.specs.Arrays.{FindsArray}

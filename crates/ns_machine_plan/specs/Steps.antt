@@ -8,7 +8,7 @@ use Rattle.ns_code.specs.declared.instruction.Instr.{Instr}
 use Rattle.ns_code.specs.declared.instruction.Instr.TheVariants as instr
 use Rattle.ns_find.specs.declared.found.Sending.{Sending}
 use Rattle.ns_find.specs.declared.found.Sending.TheVariants.{Plain, Inner}
-use Rattle.ns_machine_moves.specs.Steps as moves
+use Rattle.ns_moves.specs.Steps as moves
 use Rattle.ns_machine_plan.specs.declared.step.Step.{Step}
 use Rattle.ns_machine_plan.specs.declared.step.Step.TheVariants.{PushNil, PushTrue, PushFalse, PushInt, PushSym, PushText, PushSelf, PushOuter, PushLocal}
 use Rattle.ns_machine_plan.specs.declared.step.Step.TheVariants.{StoreLocal, PushBlock, MakeArray, Pop, Pick, Send, SendPrivate, SendSuper, InitSuper}

@@ -5,8 +5,8 @@ ghost use Rattle.ns_world.specs.Heap.{Heap};
 ghost use Rattle.ns_machine_plan.specs.Stated.{BodiesHaveSteps, StepsGoOn, JumpsLand, StepsAreUsable, RunningHasStep, FramesAreWithin};
 ghost use Rattle.ns_machine_plan.specs.Stated.{MembersAreFound, MembersAreEntries, PrivateSendsHaveMembers, PrivateSendsFind, IntegersFindRows, BooleansFindRows, ArraysFindRows};
 
-use ns_actions::finding::enclosing_objects_are_there;
 use ns_find::laws::{arrays_find_their_rows, booleans_find_their_rows, integers_find_their_rows};
+use ns_moves::finding::enclosing_objects_are_there;
 use ns_verify::laws::{heights_agree, sound_code_has_no_cause, sound_instructions_are_usable};
 
 /// In sound code each body has a first step; behind a step that goes on there is a next one, and the target of a jump

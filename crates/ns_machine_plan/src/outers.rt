@@ -1,7 +1,7 @@
 //! The declaration so many levels out from another, which is found in few steps however many levels there are.
 
 ghost use Rattle.std.specs.Prelude.{◌≡◌, ◌*◌, ◌≤◌, length, Some, IfOk};
-ghost use Rattle.ns_actions.specs.Lawful.{outer_of};
+ghost use Rattle.ns_moves.specs.Lawful.{outer_of};
 ghost use Rattle.ns_machine_plan.specs.Outers.{AreOutersOf, out_from};
 ghost use Rattle.ns_machine_plan.specs.Privates.{declaration_out};
 

@@ -7,7 +7,7 @@ ghost use Rattle.ns_machine_plan.specs.Plan.{IsPlanOf, HasStep, IsStepAt};
 ghost use Rattle.ns_machine_plan.specs.Packed.{EntryIsThere, step_in};
 ghost use Rattle.ns_machine_plan.specs.Rows.{entry_of, IsRowOf};
 ghost use Rattle.ns_machine_plan.specs.Steps.{places_of};
-ghost use Rattle.ns_actions.specs.Bodies.{greatest_of};
+ghost use Rattle.ns_moves.specs.Bodies.{greatest_of};
 
 use crate::kept_step::{KeptStep, step_in};
 use crate::making::Draft;

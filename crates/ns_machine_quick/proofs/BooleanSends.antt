@@ -25,15 +25,15 @@ use Rattle.ns_kcode.specs.Rows.{beginning}
 use Rattle.ns_kdata.specs.Arguments.{argument}
 use Rattle.ns_machine_plan.specs.Booleans.{FindsBoolean}
 use Rattle.ns_world.specs.declared.kernel_row.Row.TheVariants.{Method}
-use Rattle.ns_actions.specs.declared.site.Site.{Site}
-use Rattle.ns_actions.specs.Blocks.{turns_of, acted}
-use Rattle.ns_actions.specs.Control.{Activation, Control, Begin, Progress, Gives, halts, fails, charged, in_world}
-use Rattle.ns_actions.specs.Sends.{To}
-use Rattle.ns_machine_moves.specs.Arrivals.{acted_on}
-use Rattle.ns_machine_moves.specs.Charging.{action_charges}
-use Rattle.ns_machine_moves.specs.Move.{move}
-use Rattle.ns_machine_moves.specs.Returns.{settled}
-use Rattle.ns_machine_moves.specs.State as state
+use Rattle.ns_moves.specs.declared.site.Site.{Site}
+use Rattle.ns_moves.specs.Blocks.{turns_of, acted}
+use Rattle.ns_moves.specs.Control.{Activation, Control, Begin, Progress, Gives, halts, fails, charged, in_world}
+use Rattle.ns_moves.specs.Sends.{To}
+use Rattle.ns_moves.specs.Arrivals.{acted_on}
+use Rattle.ns_moves.specs.Charging.{action_charges}
+use Rattle.ns_moves.specs.Move.{move}
+use Rattle.ns_moves.specs.Returns.{settled}
+use Rattle.ns_moves.specs.State as state
 use Rattle.ns_machine_frames.specs.declared.registers.Registers.{Registers}
 use Rattle.ns_machine_frames.specs.Stack.{stood, with_top}
 use Rattle.ns_machine_frames.specs.View.{site_shown, frames_shown}

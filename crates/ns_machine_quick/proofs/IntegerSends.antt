@@ -16,7 +16,7 @@ use Rattle.ns_world.specs.declared.kernel_parts.IntRow.{IntRow}
 use Rattle.ns_machine_plan.specs.Integers.{FindsThatRow, FindsInteger}
 use Rattle.ns_world.specs.declared.kernel_row.Row.{Row}
 use Rattle.ns_world.specs.declared.kernel_row.Row.TheVariants.{Integer}
-use Rattle.ns_actions.specs.Blocks.{is_integer}
+use Rattle.ns_moves.specs.Blocks.{is_integer}
 use Rattle.ns_machine_core.specs.declared.state.Core.{Core}
 use Rattle.ns_machine_sends.specs.declared.sent.Sent.{Sent}
 use Rattle.ns_machine_quick.specs.Rows.{FindsRow}

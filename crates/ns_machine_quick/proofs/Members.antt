@@ -7,10 +7,10 @@ use Rattle.ns_code.specs.declared.body.BodyCode.{BodyCode}
 use Rattle.ns_world.specs.Lawful.{IsLawful}
 use Rattle.ns_world.specs.Layout.{declaration_of, entries_of}
 use Rattle.ns_world.specs.World.{World}
-use Rattle.ns_actions.specs.Bodies.{enclosing}
-use Rattle.ns_actions.specs.Control.{Activation}
-use Rattle.ns_actions.specs.Lawful.{FitsActivation, declaration_at}
-use Rattle.ns_actions.specs.Sends.{ToPrivate, found_at}
+use Rattle.ns_moves.specs.Bodies.{enclosing}
+use Rattle.ns_moves.specs.Control.{Activation}
+use Rattle.ns_moves.specs.Lawful.{FitsActivation, declaration_at}
+use Rattle.ns_moves.specs.Sends.{ToPrivate, found_at}
 use Rattle.ns_machine_plan.specs.declared.step.Member.{Member}
 use Rattle.ns_machine_plan.specs.Stated.{MembersAreFound, MembersAreEntries}
 use Rattle.ns_machine_plan.specs.Privates.{SlotIsAmong, found_in}

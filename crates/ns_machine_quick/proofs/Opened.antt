@@ -5,14 +5,14 @@ use Rattle.ns_world.specs.declared.value.Value.{Value}
 use Rattle.ns_world.specs.World.{World, WorldView, stepped}
 use Rattle.ns_find.specs.declared.found.Found.{Found}
 use Rattle.ns_find.specs.declared.found.Found.TheVariants.{Method}
-use Rattle.ns_actions.specs.declared.control.Reached.{Reached}
-use Rattle.ns_actions.specs.declared.control.Reached.TheVariants as reached
-use Rattle.ns_actions.specs.Control.{Activation}
-use Rattle.ns_actions.specs.Sends.{Target, Listed, found_at, receiver_of, method_entered, answered_by}
-use Rattle.ns_actions.specs.Shown.{reached_shown}
-use Rattle.ns_actions.specs.declared.run.Run.{Run}
-use Rattle.ns_actions.specs.declared.sends.Answered.TheVariants.{Comes}
-use Rattle.ns_actions.specs.Run.{progress_of}
+use Rattle.ns_moves.specs.declared.control.Reached.{Reached}
+use Rattle.ns_moves.specs.declared.control.Reached.TheVariants as reached
+use Rattle.ns_moves.specs.Control.{Activation}
+use Rattle.ns_moves.specs.Sends.{Target, Listed, found_at, receiver_of, method_entered, answered_by}
+use Rattle.ns_moves.specs.Shown.{reached_shown}
+use Rattle.ns_moves.specs.declared.run.Run.{Run}
+use Rattle.ns_moves.specs.declared.sends.Answered.TheVariants.{Comes}
+use Rattle.ns_moves.specs.Run.{progress_of}
 use Rattle.ns_machine_frames.specs.declared.registers.Registers.{Registers}
 use Rattle.ns_machine_frames.specs.View.{site_shown}
 use Rattle.ns_machine_core.specs.declared.state.Core.{Core}

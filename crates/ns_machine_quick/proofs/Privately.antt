@@ -4,8 +4,8 @@ use Rattle.ns_base.specs.declared.selector.Sel.{Sel}
 use Rattle.ns_code.specs.declared.program.CodeProgram.{CodeProgram}
 use Rattle.ns_code.specs.declared.instruction.Instr.TheVariants as instr
 use Rattle.ns_world.specs.declared.kernel.ClassName.{ClassName}
-use Rattle.ns_machine_moves.specs.State.{State}
-use Rattle.ns_actions.specs.declared.running.Running.{Running as RunningCode}
+use Rattle.ns_moves.specs.State.{State}
+use Rattle.ns_moves.specs.declared.running.Running.{Running as RunningCode}
 use Rattle.ns_machine_frames.specs.declared.frame.Frame.TheVariants.{Running}
 use Rattle.ns_machine_frames.specs.declared.frame.RunningFrame.{RunningFrame}
 use Rattle.ns_machine_frames.specs.declared.registers.Registers.{Registers}

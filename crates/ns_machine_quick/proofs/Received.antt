@@ -7,10 +7,10 @@ use Rattle.ns_world.specs.declared.kernel.ClassName.{ClassName}
 use Rattle.ns_find.specs.declared.found.Sending.{Sending}
 use Rattle.ns_find.specs.declared.found.Sending.TheVariants.{Plain, Inner}
 use Rattle.ns_machine_plan.specs.Steps.{send_instr}
-use Rattle.ns_actions.specs.Control.{Activation}
-use Rattle.ns_actions.specs.Sends.{To}
-use Rattle.ns_machine_moves.specs.Arrivals.{arrived}
-use Rattle.ns_machine_moves.specs.State.{State}
+use Rattle.ns_moves.specs.Control.{Activation}
+use Rattle.ns_moves.specs.Sends.{To}
+use Rattle.ns_moves.specs.Arrivals.{arrived}
+use Rattle.ns_moves.specs.State.{State}
 use Rattle.ns_machine_frames.specs.Stated.{ComeOffAgain}
 use Rattle.ns_machine_frames.specs.declared.registers.Registers.{Registers}
 use Rattle.ns_machine_frames.specs.Standing.{Stood, pushed}

@@ -11,10 +11,10 @@ use Rattle.ns_find.specs.declared.found.Found.{Found}
 use Rattle.ns_find.specs.declared.found.Found.TheVariants.{Getter, Setter}
 use Rattle.ns_find.specs.Belonging.{IsSlotOf}
 use Rattle.ns_kdata.specs.Arguments.{argument}
-use Rattle.ns_actions.specs.Control.{Activation, gives, in_world}
-use Rattle.ns_actions.specs.Sends.{Target, answered_by, first_of, found_at, receiver_of}
-use Rattle.ns_actions.specs.Suits.{Suits}
-use Rattle.ns_machine_moves.specs.Arrivals.{arrived}
+use Rattle.ns_moves.specs.Control.{Activation, gives, in_world}
+use Rattle.ns_moves.specs.Sends.{Target, answered_by, first_of, found_at, receiver_of}
+use Rattle.ns_moves.specs.Suits.{Suits}
+use Rattle.ns_moves.specs.Arrivals.{arrived}
 use Rattle.ns_machine_frames.specs.declared.frame.KeptSite.{KeptSite}
 use Rattle.ns_machine_frames.specs.declared.registers.Registers.{Registers}
 use Rattle.ns_machine_frames.specs.Stack.{stood, with_top}

@@ -3,8 +3,8 @@ use Rattle.std.proofs.Common.{◌≡◌, sym, subst, Some}
 use Rattle.ns_code.specs.declared.program.CodeProgram.{CodeProgram}
 use Rattle.ns_world.specs.declared.value.Value.{Value}
 use Rattle.ns_world.specs.World.{WorldView, SameRoom, stepped}
-use Rattle.ns_actions.specs.Control.{Activation, Control}
-use Rattle.ns_actions.specs.Sends.{Target, receiver_of}
+use Rattle.ns_moves.specs.Control.{Activation, Control}
+use Rattle.ns_moves.specs.Sends.{Target, receiver_of}
 use Rattle.ns_machine_frames.specs.declared.registers.Registers.{Registers}
 use Rattle.ns_machine_core.specs.declared.state.Core.{Core}
 use Rattle.ns_machine_core.specs.declared.state.Next.{Next}

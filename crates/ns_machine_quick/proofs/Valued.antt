@@ -20,11 +20,11 @@ use Rattle.ns_world.specs.declared.kernel_parts.IntRow.{IntRow}
 use Rattle.ns_kint.specs.Integer.{integer}
 use Rattle.ns_world.specs.declared.kernel_row.Row.{Row}
 use Rattle.ns_world.specs.declared.kernel_row.Row.TheVariants.{Data, Integer}
-use Rattle.ns_actions.specs.declared.site.Site.{Site}
-use Rattle.ns_actions.specs.Control.{Activation, Control, Progress, gives, in_world}
-use Rattle.ns_actions.specs.Kernel.{row_reached, answer_reached, data_reached, outcome_reached}
-use Rattle.ns_actions.specs.Sends.{To, answered_by}
-use Rattle.ns_machine_moves.specs.Arrivals.{arrived}
+use Rattle.ns_moves.specs.declared.site.Site.{Site}
+use Rattle.ns_moves.specs.Control.{Activation, Control, Progress, gives, in_world}
+use Rattle.ns_moves.specs.Kernel.{row_reached, answer_reached, data_reached, outcome_reached}
+use Rattle.ns_moves.specs.Sends.{To, answered_by}
+use Rattle.ns_moves.specs.Arrivals.{arrived}
 use Rattle.ns_machine_frames.specs.declared.registers.Registers.{Registers}
 use Rattle.ns_machine_frames.specs.Stack.{stood, with_top}
 use Rattle.ns_machine_frames.specs.View.{site_shown, frames_shown}

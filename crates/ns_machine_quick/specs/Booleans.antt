@@ -9,9 +9,9 @@ use Rattle.ns_world.specs.declared.value.Value.TheVariants.{Nil, True, False}
 use Rattle.ns_find.specs.declared.found.Sending.{Sending}
 use Rattle.ns_world.specs.declared.kernel_parts.KMethod.{KMethod}
 use Rattle.ns_world.specs.declared.kernel_parts.KMethod.TheVariants.{And, Or, IfTrue, IfFalse}
-use Rattle.ns_actions.specs.Control.{Activation, Control}
-use Rattle.ns_actions.specs.Sends.{To, sent}
-use Rattle.ns_machine_moves.specs.Arrivals.{arrived}
+use Rattle.ns_moves.specs.Control.{Activation, Control}
+use Rattle.ns_moves.specs.Sends.{To, sent}
+use Rattle.ns_moves.specs.Arrivals.{arrived}
 use Rattle.ns_machine_frames.specs.declared.registers.Registers.{Registers}
 use Rattle.ns_machine_frames.specs.Standing.{Stood, pushed, pushed_all}
 use Rattle.ns_machine_frames.specs.Stack.{stood, with_top}

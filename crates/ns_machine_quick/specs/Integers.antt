@@ -7,8 +7,8 @@ use Rattle.ns_code.specs.declared.program.CodeProgram.{CodeProgram}
 use Rattle.ns_code.specs.declared.instruction.Instr.{Instr}
 use Rattle.ns_world.specs.declared.value.Value.{Value}
 use Rattle.ns_find.specs.declared.found.Sending.{Sending}
-use Rattle.ns_actions.specs.Control.{Activation}
-use Rattle.ns_actions.specs.Sends.{To}
+use Rattle.ns_moves.specs.Control.{Activation}
+use Rattle.ns_moves.specs.Sends.{To}
 use Rattle.ns_machine_frames.specs.declared.registers.Registers.{Registers}
 use Rattle.ns_machine_core.specs.declared.state.Core.{Core}
 use Rattle.ns_machine_core.specs.declared.state.Next.TheVariants.{On}

@@ -11,10 +11,10 @@ use Rattle.ns_find.specs.declared.found.Found.{Found}
 use Rattle.ns_find.specs.declared.found.Found.TheVariants.{Method, Getter, Setter, Kernel}
 use Rattle.ns_find.specs.declared.found.Sending.{Sending}
 use Rattle.ns_find.specs.Find.{found_from}
-use Rattle.ns_actions.specs.Control.{Control, gives, in_world}
-use Rattle.ns_actions.specs.Sends.{Listed, ToPrivate, found_at, first_of, method_entered}
-use Rattle.ns_actions.specs.declared.running.Running.{Running as RunningCode}
-use Rattle.ns_actions.specs.Running.{code_of}
+use Rattle.ns_moves.specs.Control.{Control, gives, in_world}
+use Rattle.ns_moves.specs.Sends.{Listed, ToPrivate, found_at, first_of, method_entered}
+use Rattle.ns_moves.specs.declared.running.Running.{Running as RunningCode}
+use Rattle.ns_moves.specs.Running.{code_of}
 use Rattle.ns_machine_frames.specs.declared.frame.Frame.{Frame}
 use Rattle.ns_machine_frames.specs.declared.frame.Frame.TheVariants.{Running}
 use Rattle.ns_machine_frames.specs.declared.frame.RunningFrame.{RunningFrame}

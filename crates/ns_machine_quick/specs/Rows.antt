@@ -9,9 +9,9 @@ use Rattle.ns_find.specs.declared.found.Sending.{Sending}
 use Rattle.ns_find.specs.Find.{found_from}
 use Rattle.ns_kdata.specs.Arguments.{argument, items_of, place_in}
 use Rattle.ns_world.specs.declared.kernel_row.Row.{Row}
-use Rattle.ns_actions.specs.declared.site.Site.{Site}
-use Rattle.ns_actions.specs.Control.{Progress, gives}
-use Rattle.ns_actions.specs.Kernel.{row_reached}
+use Rattle.ns_moves.specs.declared.site.Site.{Site}
+use Rattle.ns_moves.specs.Control.{Progress, gives}
+use Rattle.ns_moves.specs.Kernel.{row_reached}
 use Rattle.ns_world.specs.KernelTable.{row_at}
 use Rattle.ns_machine_frames.specs.declared.registers.Registers.{Registers}
 use Rattle.ns_machine_core.specs.declared.state.Core.{Core}

@@ -4,8 +4,8 @@
 ghost use Rattle.std.specs.Prelude.{◌≡◌, ◌+◌, Some, IsTrue, slice_get};
 ghost use Rattle.ns_world.specs.Booleans.{is_boolean};
 ghost use Rattle.ns_world.specs.declared.kernel_row.Row.TheVariants.{Method};
-ghost use Rattle.ns_actions.specs.Control.{Activation};
-ghost use Rattle.ns_actions.specs.Sends.{To};
+ghost use Rattle.ns_moves.specs.Control.{Activation};
+ghost use Rattle.ns_moves.specs.Sends.{To};
 ghost use Rattle.ns_machine_plan.specs.Booleans.{method_of_send};
 ghost use Rattle.ns_machine_plan.specs.Steps.{send_instr};
 ghost use Rattle.ns_machine_core.specs.declared.state.Next.TheVariants as next;
@@ -18,7 +18,6 @@ ghost use Rattle.ns_machine_quick.specs.Looping.{CanLoop};
 ghost use Rattle.ns_machine_quick.specs.Rows.{FindsRow};
 
 use crate::looping::{can_loop, send_method};
-use ns_actions::answer_laws::a_send_is_its_step_and_its_answer;
 use ns_base::selector::Sel;
 use ns_code::program::CodeProgram;
 use ns_find::found::Sending;
@@ -29,6 +28,7 @@ use ns_machine_frames::laws::operands_are_taken;
 use ns_machine_frames::registers::Registers;
 use ns_machine_plan::laws::booleans_find_rows;
 use ns_machine_sends::sent::Sent;
+use ns_moves::answer_laws::a_send_is_its_step_and_its_answer;
 use ns_world::kernel::ClassName;
 use ns_world::kernel_class::KernelRow;
 use ns_world::kernel_parts::KMethod;

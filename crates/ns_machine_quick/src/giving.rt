@@ -15,8 +15,6 @@ use crate::looping::{loops, send_looping};
 use crate::opening::send_method;
 use crate::rows::send_row;
 use crate::slots::{send_getter, send_setter};
-use ns_actions::answering::found_of;
-use ns_actions::targets::class_of;
 use ns_base::selector::Sel;
 use ns_code::program::CodeProgram;
 use ns_find::found::{Found, Sending};
@@ -26,6 +24,8 @@ use ns_machine_frames::frame::KeptSite;
 use ns_machine_frames::laws::operands_are_taken;
 use ns_machine_frames::registers::Registers;
 use ns_machine_sends::sent::Sent;
+use ns_moves::answering::found_of;
+use ns_moves::targets::class_of;
 use ns_world::value::Value;
 
 /// Sends to a value, from its own start or from inside.

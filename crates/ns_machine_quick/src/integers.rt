@@ -2,7 +2,7 @@
 //! body that runs stays on top, and one step is charged.
 
 ghost use Rattle.std.specs.Prelude.{◌≡◌, ◌+◌, Some, IsTrue, slice_get};
-ghost use Rattle.ns_actions.specs.Blocks.{is_integer};
+ghost use Rattle.ns_moves.specs.Blocks.{is_integer};
 ghost use Rattle.ns_machine_plan.specs.Integers.{row_of_send};
 ghost use Rattle.ns_machine_plan.specs.Steps.{send_instr};
 ghost use Rattle.ns_machine_core.specs.Doing.{CanDo};
@@ -11,7 +11,6 @@ ghost use Rattle.ns_machine_sends.specs.Sending.{CanSend};
 ghost use Rattle.ns_machine_quick.specs.Integers.{SendsOrNothing, ToTopOrNothing, DoesOrNothing};
 
 use crate::rows::{charge, value_of_integer};
-use ns_actions::begin::is_integer;
 use ns_base::selector::Sel;
 use ns_code::program::CodeProgram;
 use ns_find::found::Sending;
@@ -22,6 +21,7 @@ use ns_machine_frames::laws::operands_are_taken;
 use ns_machine_frames::registers::Registers;
 use ns_machine_plan::laws::integers_find_rows;
 use ns_machine_sends::sent::Sent;
+use ns_moves::begin::is_integer;
 use ns_world::kernel::ClassName;
 use ns_world::kernel_class::KernelRow;
 use ns_world::kernel_parts::IntRow;

@@ -2,9 +2,9 @@
 
 ghost use Rattle.std.specs.Prelude.{◌≡◌, Decides};
 ghost use Rattle.ns_world.specs.declared.kernel_row.Row.TheVariants as row_is;
-ghost use Rattle.ns_actions.specs.Control.{Activation};
+ghost use Rattle.ns_moves.specs.Control.{Activation};
 ghost use Rattle.ns_world.specs.KernelTable.{row_at};
-ghost use Rattle.ns_actions.specs.Sends.{To};
+ghost use Rattle.ns_moves.specs.Sends.{To};
 ghost use Rattle.ns_machine_core.specs.declared.state.Next.TheVariants as next;
 ghost use Rattle.ns_machine_sends.specs.Sending.{CanSend, looked_up, Sends};
 ghost use Rattle.ns_machine_quick.specs.Given.{SendsOrNot};
@@ -12,8 +12,6 @@ ghost use Rattle.ns_machine_quick.specs.Looping.{BeginsOrNothing, CanLoop, loops
 ghost use Rattle.ns_machine_quick.specs.Opening.{FindsKernel};
 ghost use Rattle.ns_machine_quick.specs.Rows.{FindsRow};
 
-use ns_actions::answer_laws::{a_send_is_its_step_and_its_answer, live_values_are_there};
-use ns_actions::begin::{beginning, has_arguments};
 use ns_code::program::CodeProgram;
 use ns_find::found::Sending;
 use ns_kdata::arguments::argument;
@@ -21,6 +19,8 @@ use ns_machine_core::state::Core;
 use ns_machine_frames::frame::LoopingFrame;
 use ns_machine_frames::registers::Registers;
 use ns_machine_sends::sent::Sent;
+use ns_moves::answer_laws::{a_send_is_its_step_and_its_answer, live_values_are_there};
+use ns_moves::begin::{beginning, has_arguments};
 use ns_world::kernel_parts::KMethod;
 use ns_world::kernel_row::Row;
 use ns_world::kernel_table::row_of;

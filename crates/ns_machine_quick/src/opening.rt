@@ -9,11 +9,6 @@ ghost use Rattle.ns_machine_sends.specs.Sending.{CanSend, Sends};
 ghost use Rattle.ns_machine_quick.specs.Given.{SendsOrNot};
 ghost use Rattle.ns_machine_quick.specs.Opening.{FindsMethod, begun_at};
 
-use ns_actions::answer_laws::a_send_is_its_step_and_its_answer;
-use ns_actions::control::Exit;
-use ns_actions::laws::{
-    actions_spend_exactly, sends_keep_lawful, sites_stay, what_is_handed_on_fits,
-};
 use ns_code::program::CodeProgram;
 use ns_find::found::Sending;
 use ns_machine_core::arriving::shape_of;
@@ -23,6 +18,11 @@ use ns_machine_frames::registers::Registers;
 use ns_machine_sends::entering::enter_shaped;
 use ns_machine_sends::opening::{has_room, open_method};
 use ns_machine_sends::sent::Sent;
+use ns_moves::answer_laws::a_send_is_its_step_and_its_answer;
+use ns_moves::control::Exit;
+use ns_moves::laws::{
+    actions_spend_exactly, sends_keep_lawful, sites_stay, what_is_handed_on_fits,
+};
 use ns_world::lawful::charging_keeps_lawful;
 use ns_world::value::Value;
 

@@ -7,11 +7,11 @@ ghost use Rattle.ns_world.specs.Heap.{find_cell, is_class};
 ghost use Rattle.ns_world.specs.Lawful.{IsLawful};
 ghost use Rattle.ns_world.specs.Layout.{declaration_of, entries_of};
 ghost use Rattle.ns_find.specs.declared.found.Found.TheVariants as found;
-ghost use Rattle.ns_actions.specs.Bodies as bodies;
-ghost use Rattle.ns_actions.specs.Lawful.{FitsActivation, declaration_at};
-ghost use Rattle.ns_actions.specs.Sends.{ToPrivate, found_at, receiver_of};
-ghost use Rattle.ns_actions.specs.Enclosing.{place_of};
-ghost use Rattle.ns_actions.specs.Running.{code_of};
+ghost use Rattle.ns_moves.specs.Bodies as bodies;
+ghost use Rattle.ns_moves.specs.Lawful.{FitsActivation, declaration_at};
+ghost use Rattle.ns_moves.specs.Sends.{ToPrivate, found_at, receiver_of};
+ghost use Rattle.ns_moves.specs.Enclosing.{place_of};
+ghost use Rattle.ns_moves.specs.Running.{code_of};
 ghost use Rattle.ns_machine_plan.specs.Privates.{SlotIsAmong, found_in};
 ghost use Rattle.ns_machine_core.specs.Doing.{CanDo};
 ghost use Rattle.ns_machine_core.specs.Tried.{LeadsOrChangesNothing};
@@ -20,14 +20,6 @@ ghost use Rattle.ns_machine_quick.specs.Opening.{FindsAround, AroundOrNot, Aroun
 
 use crate::opening::begin;
 use crate::slots::{get, set};
-use ns_actions::answer_laws::a_send_is_its_step_and_its_answer;
-use ns_actions::enclosing::{Surrounding, enclosing};
-use ns_actions::finding::{enclosing_objects_are_there, what_is_found_suits};
-use ns_actions::laws::{
-    actions_spend_exactly, sends_keep_lawful, sites_stay, what_is_handed_on_fits,
-};
-use ns_actions::running::Running;
-use ns_actions::targets::class_of;
 use ns_base::selector::Sel;
 use ns_classes::layout::word;
 use ns_code::program::CodeProgram;
@@ -43,6 +35,14 @@ use ns_machine_plan::laws::members_are_found;
 use ns_machine_plan::step::Member;
 use ns_machine_sends::opening::has_room;
 use ns_machine_sends::sent::Sent;
+use ns_moves::answer_laws::a_send_is_its_step_and_its_answer;
+use ns_moves::enclosing::{Surrounding, enclosing};
+use ns_moves::finding::{enclosing_objects_are_there, what_is_found_suits};
+use ns_moves::laws::{
+    actions_spend_exactly, sends_keep_lawful, sites_stay, what_is_handed_on_fits,
+};
+use ns_moves::running::Running;
+use ns_moves::targets::class_of;
 use ns_world::lawful::charging_keeps_lawful;
 use ns_world::value::Value;
 use ns_world::world::World;

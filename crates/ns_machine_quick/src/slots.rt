@@ -2,14 +2,12 @@
 //! is charged.
 
 ghost use Rattle.ns_find.specs.declared.found.Found.TheVariants as found;
-ghost use Rattle.ns_actions.specs.Suits.{Suits};
+ghost use Rattle.ns_moves.specs.Suits.{Suits};
 ghost use Rattle.ns_machine_core.specs.declared.state.Next.TheVariants as next;
 ghost use Rattle.ns_machine_sends.specs.Sending.{CanSend, Sends};
 ghost use Rattle.ns_machine_quick.specs.Given.{ChargesOrNot};
 ghost use Rattle.ns_machine_quick.specs.Opening.{FindsGetter, FindsSetter, got_at, set_at};
 
-use ns_actions::answer_laws::a_send_is_its_step_and_its_answer;
-use ns_actions::finding::{entries_are_inside, what_is_found_suits};
 use ns_code::program::CodeProgram;
 use ns_find::found::Sending;
 use ns_kdata::arguments::argument;
@@ -17,6 +15,8 @@ use ns_machine_core::giving::give;
 use ns_machine_core::state::Core;
 use ns_machine_frames::registers::Registers;
 use ns_machine_sends::sent::Sent;
+use ns_moves::answer_laws::a_send_is_its_step_and_its_answer;
+use ns_moves::finding::{entries_are_inside, what_is_found_suits};
 use ns_world::lawful::charging_keeps_lawful;
 use ns_world::value::Value;
 

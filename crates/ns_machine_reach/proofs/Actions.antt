@@ -20,11 +20,11 @@ use Rattle.ns_world.specs.World.{World, made, stepped, entered, left}
 use Rattle.ns_classes.specs.declared.apply.MakeFault.{MakeFault}
 use Rattle.ns_classes.specs.Apply.{class_fault, class_cell}
 use Rattle.ns_classes.specs.Nested.{kept_in, kept_class, nested_entry}
-use Rattle.ns_actions.specs.Control.{Progress, in_world, Activation, Exit, FromMethod, FromBody, FromClause, After, Gives, Halts, Enter, Skip, Stop, EnterPart, halts, charged, frame_left}
-use Rattle.ns_actions.specs.Site.{make_fault, error}
-use Rattle.ns_actions.specs.declared.site.Site.{Site}
-use Rattle.ns_actions.specs.Bodies.{no_home, first_locals, opened, has_environment, locals_of, parameters_of, initialiser_of, clause_of}
-use Rattle.ns_actions.specs.Classes.{class_made, mixed, keeping, newly_kept, kept_or, class_over, head, nested, instance, super_selector, factory_selector, declared_part, object_part, part_of, super_part, slot_filled, body_ended}
+use Rattle.ns_moves.specs.Control.{Progress, in_world, Activation, Exit, FromMethod, FromBody, FromClause, After, Gives, Halts, Enter, Skip, Stop, EnterPart, halts, charged, frame_left}
+use Rattle.ns_moves.specs.Site.{make_fault, error}
+use Rattle.ns_moves.specs.declared.site.Site.{Site}
+use Rattle.ns_moves.specs.Bodies.{no_home, first_locals, opened, has_environment, locals_of, parameters_of, initialiser_of, clause_of}
+use Rattle.ns_moves.specs.Classes.{class_made, mixed, keeping, newly_kept, kept_or, class_over, head, nested, instance, super_selector, factory_selector, declared_part, object_part, part_of, super_part, slot_filled, body_ended}
 use Rattle.ns_machine_reach.specs.Within.{HasLater, In, AllIn, NumberIn, CellIn, Kept, ActivationIn, ExitIn, AfterIn, ControlIn, PartIn}
 use Rattle.ns_machine_reach.proofs.Cells.{all_append, all_nil}
 use Rattle.ns_machine_reach.proofs.Keeping.{NoFacet, faulted, charged_so, stepped_is, entered_is, stepped_kept, entered_kept, left_kept, made_kept, written_kept}

@@ -20,10 +20,10 @@ use Rattle.ns_kcode.specs.declared.state.KAction.{KAction}
 use Rattle.ns_kcode.specs.declared.state.KAction.TheVariants as action
 use Rattle.ns_kcode.specs.Next as kcode
 use Rattle.ns_kcode.specs.Rows.{beginning}
-use Rattle.ns_actions.specs.declared.site.Site.{Site}
-use Rattle.ns_actions.specs.Control.{Progress, Activation, FromBody, Gives, Halts, Enter, Evaluate, Begin, Waits, Finishes, halts, fails, charged}
-use Rattle.ns_actions.specs.Bodies.{parameters_of, opened}
-use Rattle.ns_actions.specs.Blocks.{new_cell, new_block, new_text, new_array, block_entered, evaluated, value_with_arguments, has_arguments, turns_of, method_begun, listed, waiting, item_at, acted, method_next, taken}
+use Rattle.ns_moves.specs.declared.site.Site.{Site}
+use Rattle.ns_moves.specs.Control.{Progress, Activation, FromBody, Gives, Halts, Enter, Evaluate, Begin, Waits, Finishes, halts, fails, charged}
+use Rattle.ns_moves.specs.Bodies.{parameters_of, opened}
+use Rattle.ns_moves.specs.Blocks.{new_cell, new_block, new_text, new_array, block_entered, evaluated, value_with_arguments, has_arguments, turns_of, method_begun, listed, waiting, item_at, acted, method_next, taken}
 use Rattle.ns_machine_reach.specs.Within.{HasLater, In, AllIn, MaybeIn, CellIn, Kept, ActivationIn, KStateIn, AfterIn, ControlIn, WaitingIn}
 use Rattle.ns_machine_reach.proofs.Cells.{at_index}
 use Rattle.ns_machine_reach.proofs.Keeping.{NoFacet, left_kept}

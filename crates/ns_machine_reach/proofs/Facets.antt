@@ -44,8 +44,8 @@ use Rattle.ns_mirror.specs.declared.slots.SlotPlace.{SlotPlace}
 use Rattle.ns_mirror.specs.Slots as slots
 use Rattle.ns_mirror.specs.Selectors as selectors
 use Rattle.ns_mirror.specs.Naming as naming
-use Rattle.ns_actions.specs.Control.{Progress, in_world}
-use Rattle.ns_actions.specs.Suiting.{facet_in, facet_at, facet_of_row, is_reference}
+use Rattle.ns_moves.specs.Control.{Progress, in_world}
+use Rattle.ns_moves.specs.Suiting.{facet_in, facet_at, facet_of_row, is_reference}
 use Rattle.ns_machine_reach.specs.Within.{Lacks, HasLater, IsGranted, In, AllIn, NumberIn, Kept}
 use Rattle.ns_machine_reach.proofs.Cells.{all_append}
 use Rattle.ns_machine_reach.proofs.Reading.{Closed, ShapeIn, shape_in, value_shape_in, word_at_in}

@@ -16,9 +16,9 @@ use Rattle.ns_world.specs.World.{World, made, stepped, entered, left, written}
 use Rattle.ns_world.specs.laws.Changing.{found_old, writing_leaves}
 use Rattle.ns_world.specs.laws.Chains.{found_below}
 use Rattle.ns_world.specs.laws.Firsts.{facets_after_word, tops_after_word}
-use Rattle.ns_actions.specs.declared.site.Site.{Site}
-use Rattle.ns_actions.specs.Site.{fault_ending}
-use Rattle.ns_actions.specs.Control.{Progress, in_world, charged}
+use Rattle.ns_moves.specs.declared.site.Site.{Site}
+use Rattle.ns_moves.specs.Site.{fault_ending}
+use Rattle.ns_moves.specs.Control.{Progress, in_world, charged}
 use Rattle.ns_machine_reach.specs.Within.{HasLater, In, CellIn, Kept, EndingIn}
 use Rattle.ns_machine_reach.proofs.Cells.{cell_in_more, cell_in_other, word_in_cell, facet_word, Written, Here, There, written_at}
 

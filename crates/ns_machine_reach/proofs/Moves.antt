@@ -19,22 +19,22 @@ use Rattle.ns_world.specs.World.{stepped, written}
 use Rattle.ns_world.specs.declared.kernel_parts.KMethod.{KMethod}
 use Rattle.ns_kdata.specs.Arguments.{items_of}
 use Rattle.ns_find.specs.declared.found.Sending.TheVariants.{Inner}
-use Rattle.ns_actions.specs.declared.site.Site.{Site}
-use Rattle.ns_actions.specs.Site.{error}
-use Rattle.ns_actions.specs.Control.{Progress, in_world, Activation, After, Gives, Halts, Control, Now, Enter, Evaluate, Begin, Perform, PartControl, Skip, Stop, EnterPart, Waiting, Waits, Finishes, charged, frame_left}
-use Rattle.ns_actions.specs.Bodies.{Place, enclosing_place, lexical, enclosing, parent_in, environment_out, is_beside, has_environment, environment_at, local_at, locals_with, local_stored}
-use Rattle.ns_actions.specs.Blocks.{new_text, new_block, new_array, evaluated, method_next}
+use Rattle.ns_moves.specs.declared.site.Site.{Site}
+use Rattle.ns_moves.specs.Site.{error}
+use Rattle.ns_moves.specs.Control.{Progress, in_world, Activation, After, Gives, Halts, Control, Now, Enter, Evaluate, Begin, Perform, PartControl, Skip, Stop, EnterPart, Waiting, Waits, Finishes, charged, frame_left}
+use Rattle.ns_moves.specs.Bodies.{Place, enclosing_place, lexical, enclosing, parent_in, environment_out, is_beside, has_environment, environment_at, local_at, locals_with, local_stored}
+use Rattle.ns_moves.specs.Blocks.{new_text, new_block, new_array, evaluated, method_next}
 use Rattle.ns_world.specs.Booleans.{is_boolean}
-use Rattle.ns_actions.specs.Classes.{super_part, slot_filled, body_ended}
-use Rattle.ns_actions.specs.Sends.{To, ToPrivate, ToSuper, to_value, sent}
-use Rattle.ns_machine_moves.specs.State.{Leaving, Loud, Silent, Frame, Running, Looping, Pending, Sending, Performing, Evaluating, Phase, Start, First, Second, Hosted, State, Unbegun, Going, Pends, Ended, Stuck}
-use Rattle.ns_machine_moves.specs.Steps.{PlacedInstr, steps_from, literal}
-use Rattle.ns_machine_moves.specs.Operands.{on_top, taken_off, picked}
-use Rattle.ns_machine_moves.specs.Returns.{concluded, delivered, settled, returned, is_home, has_home, unwound, returned_home}
-use Rattle.ns_machine_moves.specs.Arrivals.{arrived, part_arrived, acted_on}
-use Rattle.ns_machine_moves.specs.Jumps.{goes_back, jumped, takes_jump, jumped_on}
-use Rattle.ns_machine_moves.specs.Instructions.{on_with, stored_local, executed}
-use Rattle.ns_machine_moves.specs.Move.{sent_on, resumed, move}
+use Rattle.ns_moves.specs.Classes.{super_part, slot_filled, body_ended}
+use Rattle.ns_moves.specs.Sends.{To, ToPrivate, ToSuper, to_value, sent}
+use Rattle.ns_moves.specs.State.{Leaving, Loud, Silent, Frame, Running, Looping, Pending, Sending, Performing, Evaluating, Phase, Start, First, Second, Hosted, State, Unbegun, Going, Pends, Ended, Stuck}
+use Rattle.ns_moves.specs.Steps.{PlacedInstr, steps_from, literal}
+use Rattle.ns_moves.specs.Operands.{on_top, taken_off, picked}
+use Rattle.ns_moves.specs.Returns.{concluded, delivered, settled, returned, is_home, has_home, unwound, returned_home}
+use Rattle.ns_moves.specs.Arrivals.{arrived, part_arrived, acted_on}
+use Rattle.ns_moves.specs.Jumps.{goes_back, jumped, takes_jump, jumped_on}
+use Rattle.ns_moves.specs.Instructions.{on_with, stored_local, executed}
+use Rattle.ns_moves.specs.Move.{sent_on, resumed, move}
 use Rattle.ns_machine_reach.specs.Within.{HasLater, In, AllIn, Kept, ActivationIn, AfterIn, ControlIn, PartIn, WaitingIn, LeavingIn, FramesIn, PendingIn, PhaseIn, StateIn}
 use Rattle.ns_machine_reach.proofs.Cells.{at_index, all_set}
 use Rattle.ns_machine_reach.proofs.Keeping.{written_kept, manifest_unwritten}

@@ -5,9 +5,9 @@ use Rattle.ns_world.specs.declared.ending.Ending.{Ending}
 use Rattle.ns_world.specs.declared.ending.Ending.TheVariants.{Done, Error, Limit}
 use Rattle.ns_world.specs.Heap.{Heap}
 use Rattle.ns_world.specs.Reach.{IsInReach, IsRoot, IsHeld, held, referred, all_referred}
-use Rattle.ns_actions.specs.Control.{Progress, Activation, Exit, FromMethod, FromBody, FromClause}
-use Rattle.ns_machine_moves.specs.State.{Leaving, Loud, Silent, Frame, Running, Looping, Pending, Sending, Performing, Evaluating, Phase, Start, First, Second, Hosted, State, Unbegun, Going, Pends, Ended, Stuck, progress_of}
-use Rattle.ns_machine_moves.specs.Turn.{is_still}
+use Rattle.ns_moves.specs.Control.{Progress, Activation, Exit, FromMethod, FromBody, FromClause}
+use Rattle.ns_moves.specs.State.{Leaving, Loud, Silent, Frame, Running, Looping, Pending, Sending, Performing, Evaluating, Phase, Start, First, Second, Hosted, State, Unbegun, Going, Pends, Ended, Stuck, progress_of}
+use Rattle.ns_moves.specs.Turn.{is_still}
 use Rattle.ns_machine_reach.specs.Within.{MaybeIn, Kept, ActivationIn, ExitIn, LeavingIn, FrameIn, FramesIn, PendingIn, PhaseIn, EndingIn, StateIn}
 use Rattle.ns_machine_reach.specs.Reached.{activation_roots, exit_roots, leaving_roots, last_roots, frame_roots, frames_roots, pending_roots, phase_roots, ending_roots, roots_of}
 use Rattle.ns_machine_reach.proofs.Reading.{Closed}

@@ -21,7 +21,7 @@ use Rattle.ns_kdata.specs.Texts as texts
 use Rattle.ns_kdata.specs.Datum.{row_outcome}
 use Rattle.ns_world.specs.declared.kernel_parts.DataRow.{DataRow}
 use Rattle.ns_world.specs.declared.kernel_parts.DataRow.TheVariants as row
-use Rattle.ns_actions.specs.Control.{Progress, in_world}
+use Rattle.ns_moves.specs.Control.{Progress, in_world}
 use Rattle.ns_machine_reach.specs.Within.{HasLater, In, AllIn, CellIn, Kept}
 use Rattle.ns_machine_reach.proofs.Cells.{at_index, all_nil}
 use Rattle.ns_machine_reach.proofs.Keeping.{NoFacet, made_kept, written_kept}

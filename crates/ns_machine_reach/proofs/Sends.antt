@@ -37,14 +37,14 @@ use Rattle.ns_find.specs.Find.{found_from, found_private, super_start}
 use Rattle.ns_classes.specs.Nested.{kept_class}
 use Rattle.ns_world.specs.declared.kernel_row.Row.{Row}
 use Rattle.ns_world.specs.declared.kernel_row.Row.TheVariants as row
-use Rattle.ns_actions.specs.declared.site.Site.{Site}
-use Rattle.ns_actions.specs.Control.{Progress, in_world, Activation, FromMethod, Control, Enter, gives, halts, charged}
-use Rattle.ns_actions.specs.Bodies.{opened, enclosing, side_at, side_of_body}
-use Rattle.ns_actions.specs.Classes.{instance}
+use Rattle.ns_moves.specs.declared.site.Site.{Site}
+use Rattle.ns_moves.specs.Control.{Progress, in_world, Activation, FromMethod, Control, Enter, gives, halts, charged}
+use Rattle.ns_moves.specs.Bodies.{opened, enclosing, side_at, side_of_body}
+use Rattle.ns_moves.specs.Classes.{instance}
 use Rattle.ns_world.specs.KernelTable.{row_at}
-use Rattle.ns_actions.specs.Kernel as kernel
-use Rattle.ns_actions.specs.Suiting.{RowSuits, FoundSuits, facet_of_row}
-use Rattle.ns_actions.specs.Sends.{Target, To, ToPrivate, ToSuper, receiver_of, found_at, site_at, Arguments, Listed, Wrapped, given, first_of, one_more, method_entered, factory_entered, set, nested_in, row_sent, done_with, message_sel, not_found, answered_by, sent, sent_from}
+use Rattle.ns_moves.specs.Kernel as kernel
+use Rattle.ns_moves.specs.Suiting.{RowSuits, FoundSuits, facet_of_row}
+use Rattle.ns_moves.specs.Sends.{Target, To, ToPrivate, ToSuper, receiver_of, found_at, site_at, Arguments, Listed, Wrapped, given, first_of, one_more, method_entered, factory_entered, set, nested_in, row_sent, done_with, message_sel, not_found, answered_by, sent, sent_from}
 use Rattle.ns_machine_reach.specs.Within.{HasLater, In, AllIn, Kept, ActivationIn, ControlIn}
 use Rattle.ns_machine_reach.proofs.Keeping.{begun_kept, faulted}
 use Rattle.ns_machine_reach.proofs.Reading.{value_shape_in, argument_in, FoundIn, found_value_in, found_super_in, found_private_in}

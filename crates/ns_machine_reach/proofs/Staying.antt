@@ -15,19 +15,19 @@ use Rattle.ns_world.specs.Reach.{IsInReach, IsRoot, IsHeld, held}
 use Rattle.ns_world.specs.World.{World}
 use Rattle.ns_world.specs.Lawful.{IsLawful}
 use Rattle.ns_world.specs.laws.Firsts.{found_past}
-use Rattle.ns_actions.specs.Control.{Progress, Activation}
-use Rattle.ns_actions.specs.Bodies.{enclosing}
-use Rattle.ns_actions.specs.Lawful.{FitsActivation, declaration_at}
-use Rattle.ns_actions.specs.Suits.{IsEnclosingPlace}
-use Rattle.ns_actions.specs.Start.{standing_cells}
-use Rattle.ns_machine_moves.specs.State.{Leaving, Running, Looping, State, Unbegun, Going, Pends, Ended, Stuck, progress_of, world_of}
-use Rattle.ns_machine_moves.specs.Move.{move, moves}
-use Rattle.ns_machine_moves.specs.Starts.{begun}
-use Rattle.ns_machine_moves.specs.Turn.{is_still}
-use Rattle.ns_machine_moves.specs.Valid.{BeginsWith, WorldIsValid, Valid}
-use Rattle.ns_machine_moves.specs.Beginning.{MayBegin, HostKeepsValid}
-use Rattle.ns_machine_moves.specs.Standing.{ValidFindsAsked, MovesKeepValid}
-use Rattle.ns_machine_moves.specs.WorldAsks.{InstrAsks, FindsAsked}
+use Rattle.ns_moves.specs.Control.{Progress, Activation}
+use Rattle.ns_moves.specs.Bodies.{enclosing}
+use Rattle.ns_moves.specs.Lawful.{FitsActivation, declaration_at}
+use Rattle.ns_moves.specs.Suits.{IsEnclosingPlace}
+use Rattle.ns_moves.specs.Start.{standing_cells}
+use Rattle.ns_moves.specs.State.{Leaving, Running, Looping, State, Unbegun, Going, Pends, Ended, Stuck, progress_of, world_of}
+use Rattle.ns_moves.specs.Move.{move, moves}
+use Rattle.ns_moves.specs.Starts.{begun}
+use Rattle.ns_moves.specs.Turn.{is_still}
+use Rattle.ns_moves.specs.Valid.{BeginsWith, WorldIsValid, Valid}
+use Rattle.ns_moves.specs.Beginning.{MayBegin, HostKeepsValid}
+use Rattle.ns_moves.specs.Standing.{ValidFindsAsked, MovesKeepValid}
+use Rattle.ns_moves.specs.WorldAsks.{InstrAsks, FindsAsked}
 use Rattle.ns_machine_reach.specs.Within.{HasLater, Kept, StateIn}
 use Rattle.ns_machine_reach.specs.Reached.{roots_of, InReach, StaysInReach, MovesStayInReach, TurnsStayInReach, SendsStayInReach}
 use Rattle.ns_machine_reach.proofs.Keeping.{start_kept, found_more}

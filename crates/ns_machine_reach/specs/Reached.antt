@@ -11,14 +11,14 @@ use Rattle.ns_world.specs.declared.ending.Ending.TheVariants.{Done, Error, Limit
 use Rattle.ns_world.specs.Cell.{Cell, FacetCell}
 use Rattle.ns_world.specs.Heap.{Heap, find_cell}
 use Rattle.ns_world.specs.Reach.{IsInReach, held, referred, all_referred}
-use Rattle.ns_actions.specs.Control.{Activation, Exit, FromMethod, FromBody, FromClause}
-use Rattle.ns_machine_moves.specs.State.{Leaving, Loud, Silent, Frame, Running, Looping, Pending, Sending, Performing, Evaluating, Phase, Start, First}
-use Rattle.ns_machine_moves.specs.State.{Second, Hosted, State, Unbegun, Going, Pends, Ended, Stuck, progress_of, world_of}
-use Rattle.ns_machine_moves.specs.Move.{moves}
-use Rattle.ns_machine_moves.specs.Turn.{is_still, Turns}
-use Rattle.ns_machine_moves.specs.Starts.{begun}
-use Rattle.ns_machine_moves.specs.Valid.{Valid}
-use Rattle.ns_machine_moves.specs.Beginning.{MayBegin}
+use Rattle.ns_moves.specs.Control.{Activation, Exit, FromMethod, FromBody, FromClause}
+use Rattle.ns_moves.specs.State.{Leaving, Loud, Silent, Frame, Running, Looping, Pending, Sending, Performing, Evaluating, Phase, Start, First}
+use Rattle.ns_moves.specs.State.{Second, Hosted, State, Unbegun, Going, Pends, Ended, Stuck, progress_of, world_of}
+use Rattle.ns_moves.specs.Move.{moves}
+use Rattle.ns_moves.specs.Turn.{is_still, Turns}
+use Rattle.ns_moves.specs.Starts.{begun}
+use Rattle.ns_moves.specs.Valid.{Valid}
+use Rattle.ns_moves.specs.Beginning.{MayBegin}
 
 -- ---- where a run stands
 

@@ -11,10 +11,10 @@ pub fn moves_stay_in_reach()
     ensures { (code : CodeProgram) (grants : Grants) → MovesStayInReach code grants }
 {
     ns_kint::laws::answers_are_integers_and_booleans();
-    ns_actions::laws::rows_that_are_found_suit();
-    ns_actions::finding::enclosing_objects_are_there();
-    ns_machine_moves::valid_frames::moves_keep_frames_valid();
-    ns_machine_moves::valid_frames::moves_keep_valid();
+    ns_moves::laws::rows_that_are_found_suit();
+    ns_moves::finding::enclosing_objects_are_there();
+    ns_moves::valid_frames::moves_keep_frames_valid();
+    ns_moves::valid_frames::moves_keep_valid();
 }
 
 /// So it is with each turn.
@@ -28,6 +28,6 @@ pub fn turns_stay_in_reach()
 pub fn sends_stay_in_reach()
     ensures { (code : CodeProgram) (grants : Grants) → SendsStayInReach code grants }
 {
-    ns_machine_moves::valid_world::sends_of_a_host_are_valid();
+    ns_moves::valid_world::sends_of_a_host_are_valid();
     moves_stay_in_reach();
 }

@@ -12,7 +12,7 @@ use Rattle.ns_world.specs.Starts.{declaration_in}
 use Rattle.ns_kdata.specs.Arguments.{is_text, is_text_shape}
 use Rattle.ns_base.specs.Quoted.{quoted}
 use Rattle.ns_mirror.specs.Naming.{declared_text}
-use Rattle.ns_actions.specs.Report.{cell_text}
+use Rattle.ns_moves.specs.Report.{cell_text}
 
 text_cell : (code : CodeProgram) (class : List ℕ) (o : Option Cell) → is_text_shape (option_map_or shape_of o (new.Mirror Nil)) ≡ true →
     cell_text code o class ≡ quoted (option_map_or cell_bytes o [])

@@ -1,5 +1,5 @@
 //! What a run tells of itself: the text of a value, and the line that reports how it ended.
-//! `crates/ns_actions/specs/Report.antt` says both.
+//! `crates/ns_moves/specs/Report.antt` says both.
 //! Stands between actions and ns_machine.
 #![tactic(auto)]
 

@@ -4,7 +4,7 @@ ghost use Rattle.std.specs.Prelude.{◌≡◌, ◌∷◌, ◌++◌, [], codes, I
 ghost use Rattle.std.specs.List.{slice_index_or};
 ghost use Rattle.ns_world.specs.declared.ending.Ending.TheVariants.{Error};
 ghost use Rattle.ns_world.specs.Lawful.{IsLawful, IsLiveValue};
-ghost use Rattle.ns_actions.specs.Report as spec;
+ghost use Rattle.ns_moves.specs.Report as spec;
 ghost use Rattle.ns_machine_report.specs.Ending.{IsLiveEnding};
 
 use crate::output::{put, put_class, put_number};

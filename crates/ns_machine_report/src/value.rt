@@ -7,7 +7,7 @@ ghost use Rattle.ns_world.specs.Starts.{is_receiver, has_class, start_of, class_
 ghost use Rattle.ns_kdata.specs.Arguments.{CellIsThere, bytes_of};
 ghost use Rattle.ns_base.specs.Quoted.{doubled, quoted};
 ghost use Rattle.ns_mirror.specs.Naming.{class_text, declared_text};
-ghost use Rattle.ns_actions.specs.Report as spec;
+ghost use Rattle.ns_moves.specs.Report as spec;
 
 use crate::output::{put, put_class, put_signed};
 use ns_base::no_memory::NoMemory;

@@ -9,10 +9,10 @@ use Rattle.ns_world.specs.World.{World}
 use Rattle.ns_world.specs.declared.ending.LimitKind.TheVariants.{Cells}
 use Rattle.ns_world.specs.declared.value.Value.{Value}
 use Rattle.ns_world.specs.declared.value.Value.TheVariants.{Nil, Ref}
-use Rattle.ns_actions.specs.Control.{After, Gives, Halts, Progress, charged, in_world}
-use Rattle.ns_actions.specs.Start.{all_made, nothing_done, start_cells, start_made}
-use Rattle.ns_machine_moves.specs.Starts.{new_machine, unbegun}
-use Rattle.ns_machine_moves.specs.State.{world_of}
+use Rattle.ns_moves.specs.Control.{After, Gives, Halts, Progress, charged, in_world}
+use Rattle.ns_moves.specs.Start.{all_made, nothing_done, start_cells, start_made}
+use Rattle.ns_moves.specs.Starts.{new_machine, unbegun}
+use Rattle.ns_moves.specs.State.{world_of}
 
 -- all that an action leaves has these limits
 abbrev HasLimits : Limits → After → Type 0

@@ -7,7 +7,7 @@ use Rattle.ns_frozen.specs.declared.frozen.Frozen.{Frozen}
 use Rattle.ns_frozen.specs.Fault.{restore_fault}
 use Rattle.ns_frozen.specs.Thawing.{thawed}
 use Rattle.ns_machine.specs.Machine.{MachineView}
-use Rattle.ns_machine_moves.specs.State.{world_of}
+use Rattle.ns_moves.specs.State.{world_of}
 use Rattle.ns_snapshot.specs.declared.fault.SnapFault.{SnapFault}
 use Rattle.ns_snapshot.specs.declared.snapshot.Snapshot.{Snapshot}
 use Rattle.ns_snapshot_read.specs.Reads.{SnapshotAnswers}

@@ -4,7 +4,7 @@ ghost use Rattle.std.specs.Prelude.{◌≡◌, IfOk, Ok};
 ghost use Rattle.ns_base.specs.Limits.{InRange};
 ghost use Rattle.ns_frozen.specs.Fault as spec;
 ghost use Rattle.ns_frozen.specs.Fault.{IsValid};
-ghost use Rattle.ns_machine_moves.specs.State.{world_of};
+ghost use Rattle.ns_moves.specs.State.{world_of};
 ghost use Rattle.ns_machine_restore.specs.Restored.{MachineAnswers, Restores};
 ghost use Rattle.ns_snapshot.specs.Snapshot.{of_data, read_snapshot};
 

@@ -11,18 +11,18 @@ use Rattle.ns_kcode.specs.declared.state.KState.{KState}
 use Rattle.ns_kcode.specs.declared.state.KAction.{KAction}
 use Rattle.ns_kcode.specs.declared.state.KAction.TheVariants as action
 use Rattle.ns_kcode.specs.Next.{next as next_action}
-use Rattle.ns_actions.specs.declared.site.Site.{Site}
-use Rattle.ns_actions.specs.Control.{Progress, Waiting, Waits, Finishes, Halts, charged, in_world}
-use Rattle.ns_actions.specs.Blocks.{listed, method_next, acted, waiting, item_at}
-use Rattle.ns_actions.specs.Blocks.{turned as turned_turn}
-use Rattle.ns_actions.specs.Lawful.{LawfulRun, LawfulWaiting, LiveState}
-use Rattle.ns_machine_moves.specs.State.{Going, Pends, Evaluating}
-use Rattle.ns_machine_moves.specs.Arrivals.{acted_on}
-use Rattle.ns_machine_moves.specs.Move.{move}
-use Rattle.ns_actions.specs.declared.methods.Waited.{Waited}
-use Rattle.ns_actions.specs.declared.methods.Waited.TheVariants as waited
-use Rattle.ns_actions.specs.Room.{SameRest}
-use Rattle.ns_actions.specs.Waited.{waiting_shown}
+use Rattle.ns_moves.specs.declared.site.Site.{Site}
+use Rattle.ns_moves.specs.Control.{Progress, Waiting, Waits, Finishes, Halts, charged, in_world}
+use Rattle.ns_moves.specs.Blocks.{listed, method_next, acted, waiting, item_at}
+use Rattle.ns_moves.specs.Blocks.{turned as turned_turn}
+use Rattle.ns_moves.specs.Lawful.{LawfulRun, LawfulWaiting, LiveState}
+use Rattle.ns_moves.specs.State.{Going, Pends, Evaluating}
+use Rattle.ns_moves.specs.Arrivals.{acted_on}
+use Rattle.ns_moves.specs.Move.{move}
+use Rattle.ns_moves.specs.declared.methods.Waited.{Waited}
+use Rattle.ns_moves.specs.declared.methods.Waited.TheVariants as waited
+use Rattle.ns_moves.specs.Room.{SameRest}
+use Rattle.ns_moves.specs.Waited.{waiting_shown}
 use Rattle.ns_machine_frames.specs.declared.frame.Frame.{Frame}
 use Rattle.ns_machine_frames.specs.declared.frame.Frame.TheVariants.{Looping}
 use Rattle.ns_machine_frames.specs.declared.frame.LoopingFrame.{LoopingFrame}

@@ -5,8 +5,8 @@ use Rattle.std.proofs.Math.Seq.{take-append_seam, drop-append_seam}
 use Rattle.ns_code.specs.declared.program.CodeProgram.{CodeProgram}
 use Rattle.ns_world.specs.declared.value.Value.{Value}
 use Rattle.ns_kcode.specs.declared.state.KState.{KState}
-use Rattle.ns_actions.specs.Blocks.{listed}
-use Rattle.ns_machine_moves.specs.State.{Pends, Evaluating}
+use Rattle.ns_moves.specs.Blocks.{listed}
+use Rattle.ns_moves.specs.State.{Pends, Evaluating}
 use Rattle.ns_machine_frames.specs.declared.frame.Frame.{Frame}
 use Rattle.ns_machine_frames.specs.declared.frame.Frame.TheVariants.{Looping}
 use Rattle.ns_machine_frames.specs.declared.frame.LoopingFrame.{LoopingFrame}
@@ -24,7 +24,7 @@ use Rattle.ns_machine_core.specs.declared.state.Core.{Core}
 use Rattle.ns_machine_core.specs.declared.state.Next.TheVariants as next
 use Rattle.ns_machine_core.specs.Shown.{phase_shown, progress_in}
 use Rattle.ns_machine_core.specs.Standing.{HasStandingFrames}
-use Rattle.ns_actions.specs.Bodies.{height_in, greatest_of}
+use Rattle.ns_moves.specs.Bodies.{height_in, greatest_of}
 use Rattle.ns_machine_returns.specs.Acting.{Awaits}
 
 -- a method on top needs no values above its floor

@@ -6,14 +6,14 @@ use Rattle.ns_world.specs.declared.ending.Fault.{Fault}
 use Rattle.ns_world.specs.Lawful.{IsLawful, IsLiveValue}
 use Rattle.ns_world.specs.World.{WorldView, left}
 use Rattle.ns_world.specs.Heap.{cell_number}
-use Rattle.ns_actions.specs.declared.site.Site.{Site}
-use Rattle.ns_actions.specs.Control.{Progress, Activation, Exit, FromClause, in_world}
-use Rattle.ns_actions.specs.Classes.{body_ended}
-use Rattle.ns_actions.specs.Lawful.{LawfulRun, LawfulAfter, FitsExit}
-use Rattle.ns_actions.specs.Shown.{answer_shown}
-use Rattle.ns_machine_moves.specs.Returns.{settled, returned}
-use Rattle.ns_machine_moves.specs.WorldAsks.{CanLeave}
-use Rattle.ns_actions.specs.Running.{activation_at}
+use Rattle.ns_moves.specs.declared.site.Site.{Site}
+use Rattle.ns_moves.specs.Control.{Progress, Activation, Exit, FromClause, in_world}
+use Rattle.ns_moves.specs.Classes.{body_ended}
+use Rattle.ns_moves.specs.Lawful.{LawfulRun, LawfulAfter, FitsExit}
+use Rattle.ns_moves.specs.Shown.{answer_shown}
+use Rattle.ns_moves.specs.Returns.{settled, returned}
+use Rattle.ns_moves.specs.WorldAsks.{CanLeave}
+use Rattle.ns_moves.specs.Running.{activation_at}
 use Rattle.ns_machine_frames.specs.declared.frame.Leaving.{Leaving}
 use Rattle.ns_machine_frames.specs.declared.frame.Leaving.TheVariants as leaving
 use Rattle.ns_machine_frames.specs.declared.frame.RunningFrame.{RunningFrame}

@@ -9,12 +9,12 @@ use Rattle.ns_world.specs.declared.value.Value.TheVariants.{Ref}
 use Rattle.ns_world.specs.declared.kernel.ClassName.{ClassName}
 use Rattle.ns_world.specs.declared.ending.Ending.TheVariants.{Done}
 use Rattle.ns_world.specs.Starts.{class_name_of}
-use Rattle.ns_actions.specs.Start.{platform}
-use Rattle.ns_machine_moves.specs.State as state
-use Rattle.ns_machine_moves.specs.State.{State, Pends, Ended, Sending}
-use Rattle.ns_machine_moves.specs.Steps.{opening_place}
-use Rattle.ns_machine_moves.specs.Returns.{concluded, delivered}
-use Rattle.ns_actions.specs.Sends.{own_sel}
+use Rattle.ns_moves.specs.Start.{platform}
+use Rattle.ns_moves.specs.State as state
+use Rattle.ns_moves.specs.State.{State, Pends, Ended, Sending}
+use Rattle.ns_moves.specs.Steps.{opening_place}
+use Rattle.ns_moves.specs.Returns.{concluded, delivered}
+use Rattle.ns_moves.specs.Sends.{own_sel}
 use Rattle.ns_machine_frames.specs.declared.frame.Frame.{Frame}
 use Rattle.ns_machine_frames.specs.declared.frame.Pending.TheVariants as pending
 use Rattle.ns_machine_frames.specs.declared.registers.Registers.{Registers}

@@ -4,9 +4,9 @@ use Rattle.ns_code.specs.declared.program.CodeProgram.{CodeProgram}
 use Rattle.ns_world.specs.declared.value.Value.{Value}
 use Rattle.ns_world.specs.Lawful.{IsLawful, IsLiveValue}
 use Rattle.ns_world.specs.World.{World, WorldView, left}
-use Rattle.ns_actions.specs.Control.{Progress, in_world, frame_left}
-use Rattle.ns_machine_moves.specs.State.{Going}
-use Rattle.ns_machine_moves.specs.Returns.{delivered, returned}
+use Rattle.ns_moves.specs.Control.{Progress, in_world, frame_left}
+use Rattle.ns_moves.specs.State.{Going}
+use Rattle.ns_moves.specs.Returns.{delivered, returned}
 use Rattle.ns_machine_frames.specs.declared.frame.Frame.{Frame}
 use Rattle.ns_machine_frames.specs.declared.frame.Frame.TheVariants.{Running, Looping}
 use Rattle.ns_machine_frames.specs.declared.frame.Leaving.{Leaving}

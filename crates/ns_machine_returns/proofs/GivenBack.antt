@@ -3,7 +3,7 @@ use Rattle.std.proofs.Common.{◌≡◌, ℕ, zero, suc, ◌+◌, ◌<◌, refl,
 use Rattle.ns_code.specs.declared.program.CodeProgram.{CodeProgram}
 use Rattle.ns_world.specs.Lawful.{IsLawful}
 use Rattle.ns_world.specs.World.{World, left}
-use Rattle.ns_actions.specs.Control.{Progress, frame_left}
+use Rattle.ns_moves.specs.Control.{Progress, frame_left}
 use Rattle.ns_machine_frames.specs.Stated.{parts_ended}
 
 parts_suc : (count : ℕ) (p : Progress) → parts_ended (suc count) p ≡ frame_left (parts_ended count p)

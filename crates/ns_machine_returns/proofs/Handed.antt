@@ -4,9 +4,9 @@ use Rattle.ns_base.specs.declared.place.Place.{Place as SourcePlace}
 use Rattle.ns_code.specs.declared.program.CodeProgram.{CodeProgram}
 use Rattle.ns_world.specs.declared.value.Value.{Value}
 use Rattle.ns_world.specs.declared.ending.Fault.{Fault}
-use Rattle.ns_actions.specs.Site.{fault_ending}
-use Rattle.ns_machine_moves.specs.State.{Phase, Going}
-use Rattle.ns_machine_moves.specs.Returns as returns
+use Rattle.ns_moves.specs.Site.{fault_ending}
+use Rattle.ns_moves.specs.State.{Phase, Going}
+use Rattle.ns_moves.specs.Returns as returns
 use Rattle.ns_machine_frames.specs.declared.frame.Frame.{Frame}
 use Rattle.ns_machine_frames.specs.declared.frame.Frame.TheVariants.{Running, Looping}
 use Rattle.ns_machine_frames.specs.declared.frame.KeptSite.{KeptSite}
@@ -24,7 +24,7 @@ use Rattle.ns_machine_core.specs.declared.state.Core.{Core}
 use Rattle.ns_machine_core.specs.declared.state.Next.{Next}
 use Rattle.ns_machine_core.specs.declared.state.Next.TheVariants as next
 use Rattle.ns_machine_core.specs.Shown.{phase_shown, progress_in}
-use Rattle.ns_actions.specs.Bodies.{height_in, greatest_of}
+use Rattle.ns_moves.specs.Bodies.{height_in, greatest_of}
 use Rattle.ns_machine_core.specs.Framed.{HasRoomOnTop}
 use Rattle.ns_machine_core.specs.Doing.{IsSettled}
 use Rattle.ns_machine_core.specs.laws.Pushed.{stack_stays, ended_stays, operands_count}

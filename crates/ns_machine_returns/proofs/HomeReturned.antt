@@ -7,9 +7,9 @@ use Rattle.ns_world.specs.declared.value.Value.{Value}
 use Rattle.ns_world.specs.declared.ending.Kind.TheVariants.{DeadReturn}
 use Rattle.ns_world.specs.declared.ending.Fault.TheVariants as fault
 use Rattle.ns_world.specs.Lawful.{IsLawful, IsLiveValue}
-use Rattle.ns_actions.specs.Site.{error, fault_ending}
-use Rattle.ns_machine_moves.specs.State.{State, Ended}
-use Rattle.ns_machine_moves.specs.Returns as returns
+use Rattle.ns_moves.specs.Site.{error, fault_ending}
+use Rattle.ns_moves.specs.State.{State, Ended}
+use Rattle.ns_moves.specs.Returns as returns
 use Rattle.ns_machine_frames.specs.declared.frame.Frame.TheVariants.{Running}
 use Rattle.ns_machine_frames.specs.declared.frame.RunningFrame.{RunningFrame}
 use Rattle.ns_machine_frames.specs.declared.frame.Activation.{Activation as KeptActivation}

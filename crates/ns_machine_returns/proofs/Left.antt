@@ -3,7 +3,7 @@ use Rattle.std.proofs.Common.{◌≡◌, length, refl, ap, sym, subst}
 use Rattle.ns_code.specs.declared.program.CodeProgram.{CodeProgram}
 use Rattle.ns_world.specs.Lawful.{IsLawful}
 use Rattle.ns_world.specs.World.{WorldView}
-use Rattle.ns_actions.specs.Room.{SameRest}
+use Rattle.ns_moves.specs.Room.{SameRest}
 use Rattle.ns_machine_frames.specs.declared.registers.Registers.{Registers}
 use Rattle.ns_machine_frames.specs.declared.stack.Stack.{Stack}
 use Rattle.ns_machine_frames.specs.Row.{ValueRow, FrameRow}
@@ -13,7 +13,7 @@ use Rattle.ns_machine_frames.specs.Room.{FramesFitWithin}
 use Rattle.ns_machine_frames.specs.laws.Room.{within_below}
 use Rattle.ns_machine_core.specs.declared.state.Core.{Core}
 use Rattle.ns_machine_core.specs.Standing.{HasRooms, AreStanding, HasStandingFrames, KeepsRooms}
-use Rattle.ns_actions.specs.Bodies.{height_in, greatest_of}
+use Rattle.ns_moves.specs.Bodies.{height_in, greatest_of}
 use Rattle.ns_machine_core.specs.Framed.{HasRoomOnTop}
 use Rattle.ns_machine_returns.specs.Handing.{CanTake}
 

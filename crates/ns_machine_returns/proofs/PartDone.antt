@@ -6,17 +6,17 @@ use Rattle.ns_code.specs.declared.instruction.Instr.TheVariants as instr
 use Rattle.ns_world.specs.declared.value.Value.{Value}
 use Rattle.ns_world.specs.declared.ending.Fault.{Fault}
 use Rattle.ns_world.specs.World.{WorldView}
-use Rattle.ns_actions.specs.declared.control.Entered.{Entered}
-use Rattle.ns_actions.specs.declared.control.PartReached.{PartReached}
-use Rattle.ns_actions.specs.declared.control.PartReached.TheVariants as part
-use Rattle.ns_actions.specs.Site.{fault_ending}
-use Rattle.ns_actions.specs.Control.{PartControl, EnterPart, in_world}
-use Rattle.ns_actions.specs.Classes.{super_part}
-use Rattle.ns_actions.specs.Shown.{part_shown, locals_shown}
-use Rattle.ns_actions.specs.Shown as shows
-use Rattle.ns_machine_moves.specs.State.{State, Stuck}
-use Rattle.ns_machine_moves.specs.Arrivals.{part_arrived}
-use Rattle.ns_actions.specs.Room.{SameRest}
+use Rattle.ns_moves.specs.declared.control.Entered.{Entered}
+use Rattle.ns_moves.specs.declared.control.PartReached.{PartReached}
+use Rattle.ns_moves.specs.declared.control.PartReached.TheVariants as part
+use Rattle.ns_moves.specs.Site.{fault_ending}
+use Rattle.ns_moves.specs.Control.{PartControl, EnterPart, in_world}
+use Rattle.ns_moves.specs.Classes.{super_part}
+use Rattle.ns_moves.specs.Shown.{part_shown, locals_shown}
+use Rattle.ns_moves.specs.Shown as shows
+use Rattle.ns_moves.specs.State.{State, Stuck}
+use Rattle.ns_moves.specs.Arrivals.{part_arrived}
+use Rattle.ns_moves.specs.Room.{SameRest}
 use Rattle.ns_machine_frames.specs.declared.frame.Frame.TheVariants.{Running}
 use Rattle.ns_machine_frames.specs.declared.frame.Activation.{Activation}
 use Rattle.ns_machine_frames.specs.declared.frame.RunningFrame.{RunningFrame}

@@ -8,18 +8,18 @@ use Rattle.ns_world.specs.declared.value.Value.{Value}
 use Rattle.ns_world.specs.Heap.{find_cell, is_class}
 use Rattle.ns_world.specs.Lawful.{IsLawful, IsLiveValue}
 use Rattle.ns_world.specs.World.{World, WorldView}
-use Rattle.ns_actions.specs.declared.site.Site.{Site}
-use Rattle.ns_actions.specs.declared.control.Exit.TheVariants as exit
-use Rattle.ns_actions.specs.declared.control.Entered.{Entered}
-use Rattle.ns_actions.specs.declared.control.PartReached.TheVariants as part
-use Rattle.ns_actions.specs.Control.{Progress, Activation as ShownActivation, in_world}
-use Rattle.ns_actions.specs.Classes.{super_part}
-use Rattle.ns_actions.specs.Actions.{Action, BeginsPart}
-use Rattle.ns_actions.specs.Spending.{Spends, PartSpends}
-use Rattle.ns_actions.specs.Fitting.{Asks, HandsOn, FitsEntered, FitsNextPart, EntersPart}
-use Rattle.ns_actions.specs.Lawful.{LawfulRun, LawfulPart, FitsActivation}
-use Rattle.ns_actions.specs.Shown.{part_shown, locals_shown}
-use Rattle.ns_actions.specs.Shown as shows
+use Rattle.ns_moves.specs.declared.site.Site.{Site}
+use Rattle.ns_moves.specs.declared.control.Exit.TheVariants as exit
+use Rattle.ns_moves.specs.declared.control.Entered.{Entered}
+use Rattle.ns_moves.specs.declared.control.PartReached.TheVariants as part
+use Rattle.ns_moves.specs.Control.{Progress, Activation as ShownActivation, in_world}
+use Rattle.ns_moves.specs.Classes.{super_part}
+use Rattle.ns_moves.specs.Actions.{Action, BeginsPart}
+use Rattle.ns_moves.specs.Spending.{Spends, PartSpends}
+use Rattle.ns_moves.specs.Fitting.{Asks, HandsOn, FitsEntered, FitsNextPart, EntersPart}
+use Rattle.ns_moves.specs.Lawful.{LawfulRun, LawfulPart, FitsActivation}
+use Rattle.ns_moves.specs.Shown.{part_shown, locals_shown}
+use Rattle.ns_moves.specs.Shown as shows
 use Rattle.ns_machine_frames.specs.declared.frame.Frame.{Frame}
 use Rattle.ns_machine_frames.specs.declared.frame.Frame.TheVariants.{Running}
 use Rattle.ns_machine_frames.specs.declared.frame.Activation.{Activation}
@@ -32,7 +32,7 @@ use Rattle.ns_machine_frames.specs.View.{site_shown, activation_shown}
 use Rattle.ns_machine_frames.specs.laws.Counts.{many_stand, many_next}
 use Rattle.ns_machine_core.specs.declared.state.Core.{Core}
 use Rattle.ns_machine_core.specs.Shown.{progress_in}
-use Rattle.ns_actions.specs.Bodies.{height_in, greatest_of}
+use Rattle.ns_moves.specs.Bodies.{height_in, greatest_of}
 use Rattle.ns_machine_core.specs.Arriving.{CanEnter}
 use Rattle.ns_machine_core.specs.Entering.{WhatIsReachedIsEntered}
 use Rattle.ns_machine_core.specs.Doing.{CanDo}

@@ -18,9 +18,9 @@ use Rattle.ns_world.specs.declared.value.Value.TheVariants.{Nil, True, False, In
 use Rattle.ns_world.specs.Heap.{Heap}
 use Rattle.ns_world.specs.Layout.{declaration_of}
 use Rattle.ns_world.specs.Lawful.{IsLawful, IsLiveValue, HasHolder, FitsBody}
-use Rattle.ns_actions.specs.Classes.{super_selector}
-use Rattle.ns_actions.specs.Fitting.{FitsMessage}
-use Rattle.ns_actions.specs.Lawful.{FitsActivation}
+use Rattle.ns_moves.specs.Classes.{super_selector}
+use Rattle.ns_moves.specs.Fitting.{FitsMessage}
+use Rattle.ns_moves.specs.Lawful.{FitsActivation}
 use Rattle.ns_machine_frames.specs.declared.frame.Frame.TheVariants.{Running}
 use Rattle.ns_machine_frames.specs.declared.frame.Activation.{Activation}
 use Rattle.ns_machine_frames.specs.declared.frame.RunningFrame.{RunningFrame}
@@ -30,7 +30,7 @@ use Rattle.ns_machine_frames.specs.Stack.{stood, with_top}
 use Rattle.ns_machine_frames.specs.View.{activation_shown}
 use Rattle.ns_machine_core.specs.declared.state.Core.{Core}
 use Rattle.ns_machine_core.specs.Shown.{progress_in}
-use Rattle.ns_actions.specs.Bodies.{height_in}
+use Rattle.ns_moves.specs.Bodies.{height_in}
 use Rattle.ns_machine_core.specs.Doing.{Finds, FindsWhatItTakes, CanDo}
 use Rattle.ns_machine_core.specs.laws.Pushed.{top_stands}
 

@@ -12,10 +12,10 @@ use Rattle.ns_world.specs.Cell.{EnvironmentCell}
 use Rattle.ns_world.specs.Heap.{heap_size, find_cell, superclass_in}
 use Rattle.ns_world.specs.Layout.{declaration_of}
 use Rattle.ns_world.specs.World.{World, made, entered}
-use Rattle.ns_actions.specs.Site.{error}
-use Rattle.ns_actions.specs.Control.{Progress, Activation, PartControl, Skip, Stop, EnterPart, in_world, charged}
-use Rattle.ns_actions.specs.Bodies.{has_environment, first_locals, initialiser_of, no_home, opened}
-use Rattle.ns_actions.specs.Classes.{super_part, part_of, object_part, declared_part, super_selector, factory_selector}
+use Rattle.ns_moves.specs.Site.{error}
+use Rattle.ns_moves.specs.Control.{Progress, Activation, PartControl, Skip, Stop, EnterPart, in_world, charged}
+use Rattle.ns_moves.specs.Bodies.{has_environment, first_locals, initialiser_of, no_home, opened}
+use Rattle.ns_moves.specs.Classes.{super_part, part_of, object_part, declared_part, super_selector, factory_selector}
 
 -- the locals beside a part are those of all of these arguments
 abbrev pub HasAll : CodeProgram → List Value → PartControl → Type 0

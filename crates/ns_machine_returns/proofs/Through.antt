@@ -10,12 +10,12 @@ use Rattle.ns_kcode.specs.Next.{next, and_next, or_next, if_true_next, if_false_
 use Rattle.ns_world.specs.declared.value.Value.{Value}
 use Rattle.ns_world.specs.declared.value.Value.TheVariants as value
 use Rattle.ns_world.specs.World.{World, WorldView, left}
-use Rattle.ns_actions.specs.Blocks.{acted, taken}
-use Rattle.ns_actions.specs.Control.{Progress, in_world, frame_left}
-use Rattle.ns_machine_moves.specs.Arrivals.{acted_on}
-use Rattle.ns_machine_moves.specs.Charging.{action_charges}
-use Rattle.ns_machine_moves.specs.Returns.{delivered, returned}
-use Rattle.ns_machine_moves.specs.State.{State}
+use Rattle.ns_moves.specs.Blocks.{acted, taken}
+use Rattle.ns_moves.specs.Control.{Progress, in_world, frame_left}
+use Rattle.ns_moves.specs.Arrivals.{acted_on}
+use Rattle.ns_moves.specs.Charging.{action_charges}
+use Rattle.ns_moves.specs.Returns.{delivered, returned}
+use Rattle.ns_moves.specs.State.{State}
 use Rattle.ns_machine_frames.specs.declared.frame.Frame.{Frame}
 use Rattle.ns_machine_frames.specs.declared.frame.Frame.TheVariants.{Running, Looping}
 use Rattle.ns_machine_frames.specs.declared.frame.Leaving.{Leaving}

@@ -3,10 +3,10 @@ use Rattle.std.proofs.Common.{◌≡◌, ℕ, suc, ◌+◌, ◌≤◌, List, [],
 use Rattle.ns_base.specs.declared.place.Place.{Place as SourcePlace}
 use Rattle.ns_code.specs.declared.program.CodeProgram.{CodeProgram}
 use Rattle.ns_facets.specs.declared.row.Grants.{Grants}
-use Rattle.ns_actions.specs.Control.{Progress}
-use Rattle.ns_actions.specs.Lawful.{LiveState}
-use Rattle.ns_machine_moves.specs.State.{Phase, Going}
-use Rattle.ns_machine_moves.specs.Valid.{Valid}
+use Rattle.ns_moves.specs.Control.{Progress}
+use Rattle.ns_moves.specs.Lawful.{LiveState}
+use Rattle.ns_moves.specs.State.{Phase, Going}
+use Rattle.ns_moves.specs.Valid.{Valid}
 use Rattle.ns_machine_frames.specs.declared.frame.Frame.{Frame}
 use Rattle.ns_machine_frames.specs.declared.frame.Frame.TheVariants.{Running, Looping}
 use Rattle.ns_machine_frames.specs.declared.frame.LoopingFrame.{LoopingFrame}
@@ -19,7 +19,7 @@ use Rattle.ns_machine_frames.specs.laws.Counts.{many_stand}
 use Rattle.ns_machine_core.specs.declared.state.Core.{Core}
 use Rattle.ns_machine_core.specs.declared.state.Next.TheVariants as next
 use Rattle.ns_machine_core.specs.Shown.{phase_shown, progress_in}
-use Rattle.ns_actions.specs.Bodies.{height_in, greatest_of}
+use Rattle.ns_moves.specs.Bodies.{height_in, greatest_of}
 use Rattle.ns_machine_core.specs.Framed.{HasRoomOnTop, AreFramed}
 use Rattle.ns_machine_core.specs.Ready.{MachineIsReady}
 use Rattle.ns_machine_returns.specs.Acting.{IsActing, IsLooping, CanAct}

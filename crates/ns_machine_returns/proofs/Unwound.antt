@@ -6,10 +6,10 @@ use Rattle.ns_world.specs.declared.value.Value.{Value}
 use Rattle.ns_world.specs.Lawful.{IsLawful, IsLiveValue}
 use Rattle.ns_world.specs.Heap.{Heap}
 use Rattle.ns_world.specs.World.{World, WorldView, left}
-use Rattle.ns_actions.specs.Control.{Progress, in_world}
-use Rattle.ns_machine_moves.specs.State.{Phase}
-use Rattle.ns_machine_moves.specs.Returns as returns
-use Rattle.ns_actions.specs.Room.{SameRest}
+use Rattle.ns_moves.specs.Control.{Progress, in_world}
+use Rattle.ns_moves.specs.State.{Phase}
+use Rattle.ns_moves.specs.Returns as returns
+use Rattle.ns_moves.specs.Room.{SameRest}
 use Rattle.ns_machine_frames.specs.declared.frame.Frame.{Frame}
 use Rattle.ns_machine_frames.specs.declared.registers.Registers.{Registers}
 use Rattle.ns_machine_frames.specs.declared.stack.Stack.{Stack}
@@ -24,7 +24,7 @@ use Rattle.ns_machine_core.specs.declared.state.Core.{Core}
 use Rattle.ns_machine_core.specs.declared.state.Next.{Next}
 use Rattle.ns_machine_core.specs.Shown.{phase_shown, progress_in}
 use Rattle.ns_machine_core.specs.Standing.{KeepsRooms}
-use Rattle.ns_actions.specs.Bodies.{height_in, greatest_of}
+use Rattle.ns_moves.specs.Bodies.{height_in, greatest_of}
 use Rattle.ns_machine_core.specs.Framed.{HasRoomOnTop}
 use Rattle.ns_machine_core.specs.laws.Kept.{rooms_stay, stays_on}
 use Rattle.ns_machine_returns.specs.Handing.{CanTake, IsHanded}

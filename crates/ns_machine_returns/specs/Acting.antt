@@ -6,12 +6,12 @@ use Rattle.ns_world.specs.declared.value.Value.{Value}
 use Rattle.ns_world.specs.Heap.{Heap}
 use Rattle.ns_world.specs.Lawful.{IsLawful}
 use Rattle.ns_kcode.specs.declared.state.KState.{KState}
-use Rattle.ns_actions.specs.Blocks.{listed, method_next}
-use Rattle.ns_actions.specs.Lawful.{LiveState}
-use Rattle.ns_machine_moves.specs.State.{Pends, Evaluating}
-use Rattle.ns_actions.specs.declared.methods.Waited.{Waited}
-use Rattle.ns_actions.specs.Room.{SameRest}
-use Rattle.ns_actions.specs.StatedAnswers.{WaitsAs}
+use Rattle.ns_moves.specs.Blocks.{listed, method_next}
+use Rattle.ns_moves.specs.Lawful.{LiveState}
+use Rattle.ns_moves.specs.State.{Pends, Evaluating}
+use Rattle.ns_moves.specs.declared.methods.Waited.{Waited}
+use Rattle.ns_moves.specs.Room.{SameRest}
+use Rattle.ns_moves.specs.StatedAnswers.{WaitsAs}
 use Rattle.ns_machine_frames.specs.declared.frame.Frame.{Frame}
 use Rattle.ns_machine_frames.specs.declared.frame.Frame.TheVariants.{Running, Looping}
 use Rattle.ns_machine_frames.specs.declared.frame.LoopingFrame.{LoopingFrame}

@@ -5,7 +5,7 @@ use Rattle.ns_world.specs.declared.kernel_parts.KMethod.{KMethod}
 use Rattle.ns_world.specs.declared.kernel_parts.KMethod.TheVariants.{And, Or, IfTrue, IfFalse, IfTrueIfFalse, IfFalseIfTrue}
 use Rattle.ns_world.specs.declared.value.Value.{Value}
 use Rattle.ns_world.specs.declared.value.Value.TheVariants.{True, False}
-use Rattle.ns_machine_moves.specs.Returns.{delivered, returned}
+use Rattle.ns_moves.specs.Returns.{delivered, returned}
 use Rattle.ns_machine_frames.specs.declared.frame.Frame.{Frame}
 use Rattle.ns_machine_frames.specs.declared.frame.Frame.TheVariants.{Running, Looping}
 use Rattle.ns_machine_frames.specs.declared.frame.RunningFrame.{RunningFrame}

@@ -3,8 +3,8 @@ use Rattle.std.specs.Prelude.{◌≡◌, ◌∷◌}
 use Rattle.ns_code.specs.declared.program.CodeProgram.{CodeProgram}
 use Rattle.ns_world.specs.declared.value.Value.{Value}
 use Rattle.ns_world.specs.Lawful.{IsLawful, IsLiveValue}
-use Rattle.ns_machine_moves.specs.Returns.{delivered, returned}
-use Rattle.ns_machine_moves.specs.WorldAsks.{CanLeave}
+use Rattle.ns_moves.specs.Returns.{delivered, returned}
+use Rattle.ns_moves.specs.WorldAsks.{CanLeave}
 use Rattle.ns_machine_frames.specs.declared.frame.Frame.TheVariants.{Running}
 use Rattle.ns_machine_frames.specs.declared.frame.RunningFrame.{RunningFrame}
 use Rattle.ns_machine_frames.specs.declared.registers.Registers.{Registers}
@@ -16,7 +16,7 @@ use Rattle.ns_machine_core.specs.declared.state.Next.{Next}
 use Rattle.ns_machine_core.specs.Shown.{phase_shown, progress_in, shown}
 use Rattle.ns_machine_core.specs.Standing.{HasStandingFrames, StandAt, KeepsRooms, KeepsRightIn}
 use Rattle.ns_machine_core.specs.Framed.{AreFramed}
-use Rattle.ns_actions.specs.Control.{frame_left}
+use Rattle.ns_moves.specs.Control.{frame_left}
 
 -- The frame of a body, on top, can end with a live value.
 pub record CanEnd (code : CodeProgram) (core : Core) (at : Registers) (frame : RunningFrame) (value : Value) : Type 0 where

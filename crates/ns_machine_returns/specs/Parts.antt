@@ -1,11 +1,11 @@
 -- Superclass parts that begin.
 use Rattle.std.specs.Prelude.{◌≡◌, ℕ, drop}
 use Rattle.ns_code.specs.declared.program.CodeProgram.{CodeProgram}
-use Rattle.ns_actions.specs.declared.control.Entered.{Entered}
-use Rattle.ns_actions.specs.declared.control.Given.TheVariants.{Listed}
-use Rattle.ns_actions.specs.declared.control.PartReached.TheVariants as part
-use Rattle.ns_actions.specs.Shown.{part_shown}
-use Rattle.ns_machine_moves.specs.Arrivals.{part_arrived}
+use Rattle.ns_moves.specs.declared.control.Entered.{Entered}
+use Rattle.ns_moves.specs.declared.control.Given.TheVariants.{Listed}
+use Rattle.ns_moves.specs.declared.control.PartReached.TheVariants as part
+use Rattle.ns_moves.specs.Shown.{part_shown}
+use Rattle.ns_moves.specs.Arrivals.{part_arrived}
 use Rattle.ns_machine_frames.specs.declared.calls.Call.{Call}
 use Rattle.ns_machine_frames.specs.declared.frame.KeptSite.{KeptSite}
 use Rattle.ns_machine_frames.specs.declared.frame.Leaving.TheVariants.{Part}

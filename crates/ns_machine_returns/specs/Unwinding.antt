@@ -3,7 +3,7 @@ use Rattle.std.specs.Prelude.{◌≡◌, ℕ, Option, Some, None}
 use Rattle.ns_code.specs.declared.program.CodeProgram.{CodeProgram}
 use Rattle.ns_world.specs.declared.value.Value.{Value}
 use Rattle.ns_world.specs.Lawful.{IsLawful, IsLiveValue}
-use Rattle.ns_machine_moves.specs.Returns.{unwound}
+use Rattle.ns_moves.specs.Returns.{unwound}
 use Rattle.ns_machine_frames.specs.declared.registers.Registers.{Registers}
 use Rattle.ns_machine_frames.specs.Leaving.{frames_to}
 use Rattle.ns_machine_frames.specs.Stack.{stood}

@@ -1,8 +1,8 @@
 //! Actions of a method of the kernel that evaluates blocks, where its frame is topmost.
 
 ghost use Rattle.std.specs.Prelude.{◌≡◌, ◌+◌, ◌<◌, ◌≤◌, ◌∷◌, ◌++◌, length};
-ghost use Rattle.ns_actions.specs.Blocks.{listed};
-ghost use Rattle.ns_actions.specs.declared.methods.Waited.TheVariants as waited;
+ghost use Rattle.ns_moves.specs.Blocks.{listed};
+ghost use Rattle.ns_moves.specs.declared.methods.Waited.TheVariants as waited;
 ghost use Rattle.ns_machine_frames.specs.declared.frame.Frame.TheVariants.{Looping};
 ghost use Rattle.ns_machine_frames.specs.Standing.{below};
 ghost use Rattle.ns_machine_frames.specs.Stack.{in_use, IsLaid, KeepsRoom};
@@ -13,9 +13,6 @@ ghost use Rattle.ns_machine_core.specs.Ready.{MakesMove};
 ghost use Rattle.ns_machine_returns.specs.Acting.{IsLooping, IsTopmost, CanAct, IsAsked, awaiting};
 
 use crate::handing::bring;
-use ns_actions::control::Answer;
-use ns_actions::laws::actions_keep_lawful;
-use ns_actions::methods::{Waited, method_next};
 use ns_code::program::CodeProgram;
 use ns_kcode::state::KState;
 use ns_machine_core::own::OwnSends;
@@ -24,6 +21,9 @@ use ns_machine_frames::frame::{Frame, LoopingFrame, Pending};
 use ns_machine_frames::laws::frames_have_room;
 use ns_machine_frames::registers::Registers;
 use ns_machine_frames::stack::Stack;
+use ns_moves::control::Answer;
+use ns_moves::laws::actions_keep_lawful;
+use ns_moves::methods::{Waited, method_next};
 use ns_world::value::Value;
 
 /// Does the next action of the method of the kernel that is topmost: it lets the evaluation of a block wait, or ends. It stands

@@ -18,7 +18,6 @@ ghost use Rattle.ns_machine_returns.specs.Answering.{EndLeads, HandsOn, IsHanded
 ghost use Rattle.ns_machine_returns.specs.Ending.{CanEnd, FrameIsAnswered};
 ghost use Rattle.ns_machine_returns.specs.Handing.{CanTake, IsHanded};
 
-use ns_actions::bodies::part_ended;
 use ns_code::program::CodeProgram;
 use ns_machine_core::led::Led;
 use ns_machine_core::settling::running;
@@ -27,6 +26,7 @@ use ns_machine_frames::frame::{Frame, Leaving, RunningFrame};
 use ns_machine_frames::laws::values_are_delivered;
 use ns_machine_frames::registers::Registers;
 use ns_machine_frames::stack::Stack;
+use ns_moves::bodies::part_ended;
 use ns_world::kernel_parts::KMethod;
 use ns_world::lawful::charging_keeps_lawful;
 use ns_world::value::Value;

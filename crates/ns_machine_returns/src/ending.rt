@@ -12,16 +12,16 @@ ghost use Rattle.ns_machine_core.specs.Own.{AreOwn};
 ghost use Rattle.ns_machine_returns.specs.Ending.{CanEnd, IsEnded, FrameIsAnswered};
 
 use crate::handing::{bring, hand};
-use ns_actions::bodies::part_ended;
-use ns_actions::classes::body_ended;
-use ns_actions::control::Exit;
-use ns_actions::laws::actions_keep_lawful;
 use ns_code::program::CodeProgram;
 use ns_machine_core::own::OwnSends;
 use ns_machine_core::settling::{running, running_code};
 use ns_machine_core::state::{Core, Next};
 use ns_machine_frames::frame::{Leaving, RunningFrame};
 use ns_machine_frames::registers::Registers;
+use ns_moves::bodies::part_ended;
+use ns_moves::classes::body_ended;
+use ns_moves::control::Exit;
+use ns_moves::laws::actions_keep_lawful;
 use ns_world::lawful::charging_keeps_lawful;
 use ns_world::value::Value;
 

@@ -8,8 +8,6 @@ ghost use Rattle.ns_machine_core.specs.Doing.{IsSettled};
 ghost use Rattle.ns_machine_core.specs.Own.{AreOwn};
 ghost use Rattle.ns_machine_returns.specs.Handing.{CanTake, GivesLive, IsHanded};
 
-use ns_actions::control::Answer;
-use ns_actions::targets::class_of;
 use ns_code::program::CodeProgram;
 use ns_machine_core::own::OwnSends;
 use ns_machine_core::settling::ending_at;
@@ -17,6 +15,8 @@ use ns_machine_core::state::{Core, Next, Phase};
 use ns_machine_frames::frame::{KeptSite, Pending};
 use ns_machine_frames::laws::values_are_delivered;
 use ns_machine_frames::registers::Registers;
+use ns_moves::control::Answer;
+use ns_moves::targets::class_of;
 use ns_world::ending::Ending;
 use ns_world::value::Value;
 

@@ -3,8 +3,8 @@
 ghost use Rattle.std.specs.Prelude.{◌≡◌, ◌≤◌, Option};
 ghost use Rattle.ns_base.specs.declared.place.Place.{Place as SourcePlace};
 ghost use Rattle.ns_code.specs.declared.instruction.Instr.TheVariants as instr;
-ghost use Rattle.ns_actions.specs.Control.{Progress, in_world};
-ghost use Rattle.ns_actions.specs.Room.{SameRest};
+ghost use Rattle.ns_moves.specs.Control.{Progress, in_world};
+ghost use Rattle.ns_moves.specs.Room.{SameRest};
 ghost use Rattle.ns_machine_frames.specs.Stated.{parts_ended};
 ghost use Rattle.ns_machine_core.specs.Doing.{CanDo, IsDone};
 ghost use Rattle.ns_machine_core.specs.Own.{AreOwn};

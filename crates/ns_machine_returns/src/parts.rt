@@ -3,16 +3,12 @@
 ghost use Rattle.std.specs.Prelude.{Option};
 ghost use Rattle.ns_base.specs.declared.place.Place.{Place as SourcePlace};
 ghost use Rattle.ns_code.specs.declared.instruction.Instr.TheVariants as instr;
-ghost use Rattle.ns_actions.specs.declared.control.Exit.TheVariants as exit;
+ghost use Rattle.ns_moves.specs.declared.control.Exit.TheVariants as exit;
 ghost use Rattle.ns_machine_core.specs.declared.state.Next.TheVariants as next;
 ghost use Rattle.ns_machine_core.specs.Arriving.{CanEnter};
 ghost use Rattle.ns_machine_core.specs.Doing.{CanDo, IsDone};
 ghost use Rattle.ns_machine_returns.specs.Parts.{part_call, listed, PartBegins};
 
-use ns_actions::classes::super_part;
-use ns_actions::control::{Entered, Given, PartReached};
-use ns_actions::finding::enclosing_objects_are_there;
-use ns_actions::laws::{actions_keep_lawful, actions_spend_exactly, what_is_handed_on_fits};
 use ns_code::program::CodeProgram;
 use ns_machine_core::arriving::shape_of;
 use ns_machine_core::laws::what_is_reached_can_be_entered;
@@ -22,6 +18,10 @@ use ns_machine_frames::calls::Call;
 use ns_machine_frames::frame::{KeptSite, Leaving};
 use ns_machine_frames::laws::{frames_begin, frames_have_room, operands_are_taken};
 use ns_machine_frames::registers::Registers;
+use ns_moves::classes::super_part;
+use ns_moves::control::{Entered, Given, PartReached};
+use ns_moves::finding::enclosing_objects_are_there;
+use ns_moves::laws::{actions_keep_lawful, actions_spend_exactly, what_is_handed_on_fits};
 
 /// Begins the part of the superclass of the class whose initialiser runs, with so many topmost operands as the arguments
 /// of its superclass message.

@@ -3,18 +3,18 @@ use Rattle.std.proofs.Common.{◌≡◌, ◌+◌, ◌<◌, ℕ, List, [], length
 use Rattle.std.proofs.lemmas.List.{drop-take}
 use Rattle.ns_code.specs.declared.program.CodeProgram.{CodeProgram}
 use Rattle.ns_world.specs.declared.value.Value.{Value}
-use Rattle.ns_actions.specs.declared.control.Exit.{Exit}
-use Rattle.ns_actions.specs.declared.control.Exit.TheVariants as exit
-use Rattle.ns_actions.specs.declared.control.Given.{Given}
-use Rattle.ns_actions.specs.declared.control.Given.TheVariants as given
-use Rattle.ns_actions.specs.declared.control.Entered.{Entered}
-use Rattle.ns_actions.specs.declared.control.Reached.TheVariants as reached
-use Rattle.ns_actions.specs.Control.{Control}
+use Rattle.ns_moves.specs.declared.control.Exit.{Exit}
+use Rattle.ns_moves.specs.declared.control.Exit.TheVariants as exit
+use Rattle.ns_moves.specs.declared.control.Given.{Given}
+use Rattle.ns_moves.specs.declared.control.Given.TheVariants as given
+use Rattle.ns_moves.specs.declared.control.Entered.{Entered}
+use Rattle.ns_moves.specs.declared.control.Reached.TheVariants as reached
+use Rattle.ns_moves.specs.Control.{Control}
 use Rattle.ns_machine_frames.specs.declared.calls.Call.{Call}
 use Rattle.ns_machine_frames.specs.declared.frame.Leaving.{Leaving}
 use Rattle.ns_machine_frames.specs.declared.registers.Registers.{Registers}
 use Rattle.ns_machine_frames.specs.Calls.{HasPlaceFor}
-use Rattle.ns_machine_moves.specs.Arrivals.{arrived}
+use Rattle.ns_moves.specs.Arrivals.{arrived}
 use Rattle.ns_machine_frames.specs.Stack.{stood, with_top}
 use Rattle.ns_machine_frames.specs.View.{site_shown, frames_shown}
 use Rattle.ns_machine_core.specs.declared.state.Core.{Core}

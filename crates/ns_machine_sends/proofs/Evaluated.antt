@@ -16,20 +16,20 @@ use Rattle.ns_world.specs.Cell.{Cell, EnvironmentCell, shape_of}
 use Rattle.ns_world.specs.Heap.{Heap, heap_size, find_cell}
 use Rattle.ns_world.specs.World.{World, WorldView, stepped, entered, made}
 use Rattle.ns_kdata.specs.Arguments.{CellIsThere, shape_of_value}
-use Rattle.ns_actions.specs.declared.site.Site.{Site}
-use Rattle.ns_actions.specs.declared.control.Reached.{Reached}
-use Rattle.ns_actions.specs.declared.control.Reached.TheVariants as reached
-use Rattle.ns_actions.specs.Control.{Progress, in_world, Activation, Control, Now, Enter, FromBody, Evaluate, Begin, Perform, Gives, Halts, halts, fails, charged}
-use Rattle.ns_actions.specs.Bodies.{parameters_of, has_environment, first_locals, opened}
-use Rattle.ns_actions.specs.Shown.{reached_shown}
-use Rattle.ns_actions.specs.Blocks.{is_block_shape, is_block, evaluated, block_entered}
-use Rattle.ns_actions.specs.Actions.{Action, Evaluates}
-use Rattle.ns_actions.specs.Lawful.{LawfulRun, LawfulControl}
-use Rattle.ns_actions.specs.Fitting.{GoesOnAt, home_in, Asks, HandsOn}
-use Rattle.ns_actions.specs.Spending.{Spends}
-use Rattle.ns_machine_moves.specs.Arrivals.{arrived}
-use Rattle.ns_actions.specs.declared.run.Run.{Run}
-use Rattle.ns_actions.specs.Room.{SameRest}
+use Rattle.ns_moves.specs.declared.site.Site.{Site}
+use Rattle.ns_moves.specs.declared.control.Reached.{Reached}
+use Rattle.ns_moves.specs.declared.control.Reached.TheVariants as reached
+use Rattle.ns_moves.specs.Control.{Progress, in_world, Activation, Control, Now, Enter, FromBody, Evaluate, Begin, Perform, Gives, Halts, halts, fails, charged}
+use Rattle.ns_moves.specs.Bodies.{parameters_of, has_environment, first_locals, opened}
+use Rattle.ns_moves.specs.Shown.{reached_shown}
+use Rattle.ns_moves.specs.Blocks.{is_block_shape, is_block, evaluated, block_entered}
+use Rattle.ns_moves.specs.Actions.{Action, Evaluates}
+use Rattle.ns_moves.specs.Lawful.{LawfulRun, LawfulControl}
+use Rattle.ns_moves.specs.Fitting.{GoesOnAt, home_in, Asks, HandsOn}
+use Rattle.ns_moves.specs.Spending.{Spends}
+use Rattle.ns_moves.specs.Arrivals.{arrived}
+use Rattle.ns_moves.specs.declared.run.Run.{Run}
+use Rattle.ns_moves.specs.Room.{SameRest}
 use Rattle.ns_machine_frames.specs.View.{site_shown}
 use Rattle.ns_machine_core.specs.declared.state.Next.{Next}
 use Rattle.ns_machine_core.specs.Shown.{phase_shown, progress_in}

@@ -6,14 +6,14 @@ use Rattle.ns_world.specs.Heap.{Heap}
 use Rattle.ns_world.specs.World.{WorldView, SameRoom}
 use Rattle.ns_facets.specs.declared.board.Board.{Board}
 use Rattle.ns_world.specs.declared.kernel_row.Row.{Row}
-use Rattle.ns_actions.specs.declared.control.Reached.{Reached}
-use Rattle.ns_actions.specs.declared.control.Reached.TheVariants as reached
-use Rattle.ns_actions.specs.Control.{Control}
+use Rattle.ns_moves.specs.declared.control.Reached.{Reached}
+use Rattle.ns_moves.specs.declared.control.Reached.TheVariants as reached
+use Rattle.ns_moves.specs.Control.{Control}
 use Rattle.ns_world.specs.KernelTable.{row_at}
-use Rattle.ns_actions.specs.Kernel.{row_reached}
-use Rattle.ns_machine_moves.specs.Arrivals.{arrived}
-use Rattle.ns_actions.specs.declared.sends.Answered.TheVariants as answers
-use Rattle.ns_actions.specs.Plain.{IsPlain}
+use Rattle.ns_moves.specs.Kernel.{row_reached}
+use Rattle.ns_moves.specs.Arrivals.{arrived}
+use Rattle.ns_moves.specs.declared.sends.Answered.TheVariants as answers
+use Rattle.ns_moves.specs.Plain.{IsPlain}
 use Rattle.ns_kernel_rows.specs.Asked.{CanBeAsked}
 use Rattle.ns_kernel_rows.specs.Plain.{IsOfRow}
 use Rattle.ns_kernel_rows.specs.Reaching.{CallReaches}

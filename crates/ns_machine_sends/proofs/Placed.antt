@@ -5,8 +5,8 @@ use Rattle.ns_code.specs.declared.program.CodeProgram.{CodeProgram}
 use Rattle.ns_world.specs.declared.value.Value.{Value}
 use Rattle.ns_world.specs.declared.value.Value.TheVariants.{Ref}
 use Rattle.ns_kdata.specs.Arguments.{items_of}
-use Rattle.ns_actions.specs.declared.control.Given.TheVariants as given
-use Rattle.ns_actions.specs.declared.control.Reached.TheVariants as reached
+use Rattle.ns_moves.specs.declared.control.Given.TheVariants as given
+use Rattle.ns_moves.specs.declared.control.Reached.TheVariants as reached
 use Rattle.ns_machine_frames.specs.declared.registers.Registers.{Registers}
 use Rattle.ns_machine_frames.specs.declared.stack.Stack.{Stack}
 use Rattle.ns_machine_frames.specs.Row.{FrameRow}
@@ -15,7 +15,7 @@ use Rattle.ns_machine_frames.specs.Standing.{standing, at_next, AreLaid}
 use Rattle.ns_machine_frames.specs.Stack.{in_use, with_top, IsLaid, KeepsRoom}
 use Rattle.ns_machine_core.specs.declared.state.Core.{Core}
 use Rattle.ns_machine_core.specs.declared.state.Next.{Next}
-use Rattle.ns_actions.specs.Bodies.{height_in, greatest_of}
+use Rattle.ns_moves.specs.Bodies.{height_in, greatest_of}
 use Rattle.ns_machine_core.specs.Standing.{ArgumentsWait}
 use Rattle.ns_machine_core.specs.Arriving.{Arrives}
 use Rattle.ns_machine_core.specs.laws.Pushed.{stack_stays}

@@ -17,23 +17,23 @@ use Rattle.ns_find.specs.declared.memo.Kept.{Kept}
 use Rattle.ns_find.specs.Find.{found_from}
 use Rattle.ns_find.specs.Memo.{PlaceIsRight}
 use Rattle.ns_world.specs.declared.kernel_row.Row.{Row}
-use Rattle.ns_actions.specs.declared.control.Reached.{Reached}
-use Rattle.ns_actions.specs.declared.control.Reached.TheVariants as reached
-use Rattle.ns_actions.specs.Control.{Control, halts, charged, in_world}
-use Rattle.ns_actions.specs.Bodies.{no_home}
-use Rattle.ns_actions.specs.Kernel.{row_reached}
-use Rattle.ns_actions.specs.Lawful.{FitsSelector}
-use Rattle.ns_actions.specs.Sends.{To, answered_by}
+use Rattle.ns_moves.specs.declared.control.Reached.{Reached}
+use Rattle.ns_moves.specs.declared.control.Reached.TheVariants as reached
+use Rattle.ns_moves.specs.Control.{Control, halts, charged, in_world}
+use Rattle.ns_moves.specs.Bodies.{no_home}
+use Rattle.ns_moves.specs.Kernel.{row_reached}
+use Rattle.ns_moves.specs.Lawful.{FitsSelector}
+use Rattle.ns_moves.specs.Sends.{To, answered_by}
 use Rattle.ns_world.specs.KernelTable.{row_at}
-use Rattle.ns_actions.specs.Stated.{WaitedIsLawful, WaitedFits, WaitedStays, WaitedSpends}
-use Rattle.ns_actions.specs.Suiting.{FoundSuits}
-use Rattle.ns_machine_moves.specs.Arrivals.{arrived}
-use Rattle.ns_actions.specs.declared.run.Run.{Run}
-use Rattle.ns_actions.specs.declared.sends.Answered.{Answered}
-use Rattle.ns_actions.specs.declared.sends.Answered.TheVariants as answers
-use Rattle.ns_actions.specs.Answered.{answered_shown, answered, IsAnswered}
-use Rattle.ns_actions.specs.Run.{progress_of}
-use Rattle.ns_actions.specs.Room.{SameRest}
+use Rattle.ns_moves.specs.Stated.{WaitedIsLawful, WaitedFits, WaitedStays, WaitedSpends}
+use Rattle.ns_moves.specs.Suiting.{FoundSuits}
+use Rattle.ns_moves.specs.Arrivals.{arrived}
+use Rattle.ns_moves.specs.declared.run.Run.{Run}
+use Rattle.ns_moves.specs.declared.sends.Answered.{Answered}
+use Rattle.ns_moves.specs.declared.sends.Answered.TheVariants as answers
+use Rattle.ns_moves.specs.Answered.{answered_shown, answered, IsAnswered}
+use Rattle.ns_moves.specs.Run.{progress_of}
+use Rattle.ns_moves.specs.Room.{SameRest}
 use Rattle.ns_kernel_rows.specs.Asked.{CanBeAsked}
 use Rattle.ns_kernel_rows.specs.Reaching.{CallReaches}
 use Rattle.ns_machine_frames.specs.declared.frame.Frame.{Frame}

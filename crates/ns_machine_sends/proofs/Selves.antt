@@ -6,14 +6,14 @@ use Rattle.ns_code.specs.declared.instruction.Instr.TheVariants as instr
 use Rattle.ns_world.specs.declared.kernel.ClassName.{ClassName}
 use Rattle.ns_world.specs.Heap.{Heap}
 use Rattle.ns_world.specs.World.{World, stepped}
-use Rattle.ns_actions.specs.Control.{Activation}
-use Rattle.ns_actions.specs.Lawful.{FitsActivation}
-use Rattle.ns_actions.specs.Sends.{ToSuper, sent}
-use Rattle.ns_machine_moves.specs.Arrivals.{arrived}
-use Rattle.ns_machine_moves.specs.State.{State, Stuck}
-use Rattle.ns_machine_moves.specs.WorldAsks.{SelectorTakes}
-use Rattle.ns_actions.specs.declared.running.Running.{Running as RunningCode}
-use Rattle.ns_actions.specs.Running.{code_of}
+use Rattle.ns_moves.specs.Control.{Activation}
+use Rattle.ns_moves.specs.Lawful.{FitsActivation}
+use Rattle.ns_moves.specs.Sends.{ToSuper, sent}
+use Rattle.ns_moves.specs.Arrivals.{arrived}
+use Rattle.ns_moves.specs.State.{State, Stuck}
+use Rattle.ns_moves.specs.WorldAsks.{SelectorTakes}
+use Rattle.ns_moves.specs.declared.running.Running.{Running as RunningCode}
+use Rattle.ns_moves.specs.Running.{code_of}
 use Rattle.ns_machine_frames.specs.declared.frame.Frame.TheVariants.{Running}
 use Rattle.ns_machine_frames.specs.declared.frame.RunningFrame.{RunningFrame}
 use Rattle.ns_machine_frames.specs.declared.registers.Registers.{Registers}

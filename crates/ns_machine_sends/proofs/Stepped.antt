@@ -3,15 +3,15 @@ use Rattle.std.proofs.Common.{◌≡◌, List, subst}
 use Rattle.ns_code.specs.declared.program.CodeProgram.{CodeProgram}
 use Rattle.ns_world.specs.declared.value.Value.{Value}
 use Rattle.ns_find.specs.declared.found.Found.{Found}
-use Rattle.ns_actions.specs.Control.{Activation}
-use Rattle.ns_actions.specs.Sends.{Target}
-use Rattle.ns_actions.specs.Suiting.{FoundSuits}
-use Rattle.ns_actions.specs.declared.run.Run.{Run}
-use Rattle.ns_actions.specs.declared.sends.Answered.{Answered}
-use Rattle.ns_actions.specs.declared.sends.Answered.TheVariants as answers
-use Rattle.ns_actions.specs.Answered.{answered_shown, answered, IsAnswered}
-use Rattle.ns_actions.specs.Room.{SameRest}
-use Rattle.ns_actions.specs.Run.{progress_of, IsReady}
+use Rattle.ns_moves.specs.Control.{Activation}
+use Rattle.ns_moves.specs.Sends.{Target}
+use Rattle.ns_moves.specs.Suiting.{FoundSuits}
+use Rattle.ns_moves.specs.declared.run.Run.{Run}
+use Rattle.ns_moves.specs.declared.sends.Answered.{Answered}
+use Rattle.ns_moves.specs.declared.sends.Answered.TheVariants as answers
+use Rattle.ns_moves.specs.Answered.{answered_shown, answered, IsAnswered}
+use Rattle.ns_moves.specs.Room.{SameRest}
+use Rattle.ns_moves.specs.Run.{progress_of, IsReady}
 use Rattle.ns_machine_frames.specs.declared.registers.Registers.{Registers}
 use Rattle.ns_machine_frames.specs.View.{site_shown}
 use Rattle.ns_machine_core.specs.declared.state.Core.{Core}

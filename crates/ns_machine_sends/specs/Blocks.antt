@@ -5,14 +5,14 @@ use Rattle.ns_world.specs.declared.cell.NewCell.{NewCell}
 use Rattle.ns_world.specs.declared.cell.NewCell.TheVariants as cell
 use Rattle.ns_world.specs.declared.value.Value.{Value}
 use Rattle.ns_world.specs.World.{WorldView}
-use Rattle.ns_actions.specs.declared.control.Entered.{Entered}
-use Rattle.ns_actions.specs.declared.control.Exit.TheVariants as exit
-use Rattle.ns_actions.specs.declared.control.Given.TheVariants as given
-use Rattle.ns_actions.specs.declared.control.Reached.TheVariants as reached
-use Rattle.ns_actions.specs.Blocks.{block_entered}
-use Rattle.ns_actions.specs.declared.running.Running.{Running}
-use Rattle.ns_actions.specs.Room.{SameRest}
-use Rattle.ns_actions.specs.StatedAnswers.{ReachesAs}
+use Rattle.ns_moves.specs.declared.control.Entered.{Entered}
+use Rattle.ns_moves.specs.declared.control.Exit.TheVariants as exit
+use Rattle.ns_moves.specs.declared.control.Given.TheVariants as given
+use Rattle.ns_moves.specs.declared.control.Reached.TheVariants as reached
+use Rattle.ns_moves.specs.Blocks.{block_entered}
+use Rattle.ns_moves.specs.declared.running.Running.{Running}
+use Rattle.ns_moves.specs.Room.{SameRest}
+use Rattle.ns_moves.specs.StatedAnswers.{ReachesAs}
 use Rattle.ns_machine_frames.specs.declared.registers.Registers.{Registers}
 use Rattle.ns_machine_core.specs.declared.state.Core.{Core}
 use Rattle.ns_machine_core.specs.declared.state.Next.TheVariants as next

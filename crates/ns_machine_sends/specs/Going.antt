@@ -3,25 +3,25 @@ use Rattle.std.specs.Prelude.{◌≡◌, ℕ, ◌<◌, ◌≤◌, List, length, 
 use Rattle.ns_code.specs.declared.program.CodeProgram.{CodeProgram}
 use Rattle.ns_verify.specs.Verify.{IsSound}
 use Rattle.ns_world.specs.declared.value.Value.{Value}
-use Rattle.ns_actions.specs.declared.control.Given.{Given}
-use Rattle.ns_actions.specs.declared.control.Given.TheVariants as given
-use Rattle.ns_actions.specs.declared.control.Exit.{Exit}
-use Rattle.ns_actions.specs.declared.control.Exit.TheVariants as exit
-use Rattle.ns_actions.specs.declared.control.Reached.{Reached}
-use Rattle.ns_actions.specs.declared.control.Reached.TheVariants as reached
+use Rattle.ns_moves.specs.declared.control.Given.{Given}
+use Rattle.ns_moves.specs.declared.control.Given.TheVariants as given
+use Rattle.ns_moves.specs.declared.control.Exit.{Exit}
+use Rattle.ns_moves.specs.declared.control.Exit.TheVariants as exit
+use Rattle.ns_moves.specs.declared.control.Reached.{Reached}
+use Rattle.ns_moves.specs.declared.control.Reached.TheVariants as reached
 use Rattle.ns_world.specs.Heap.{Heap}
 use Rattle.ns_world.specs.Lawful.{IsLawful, IsLiveValue}
 use Rattle.ns_world.specs.KernelTable.{row_at}
-use Rattle.ns_actions.specs.Suiting.{RowSuits}
-use Rattle.ns_actions.specs.Control.{Control, Now, Enter, Evaluate, Begin, Perform}
-use Rattle.ns_actions.specs.Shown.{given_values, passed}
-use Rattle.ns_actions.specs.Lawful.{LawfulControl}
-use Rattle.ns_actions.specs.Fitting.{FitsNext}
-use Rattle.ns_machine_moves.specs.Arrivals.{arrived}
-use Rattle.ns_actions.specs.declared.sends.Answered.{Answered}
-use Rattle.ns_actions.specs.declared.sends.Answered.TheVariants as answers
-use Rattle.ns_actions.specs.Answered.{answered_shown}
-use Rattle.ns_actions.specs.Plain.{IsOwnGiven, IsPlain}
+use Rattle.ns_moves.specs.Suiting.{RowSuits}
+use Rattle.ns_moves.specs.Control.{Control, Now, Enter, Evaluate, Begin, Perform}
+use Rattle.ns_moves.specs.Shown.{given_values, passed}
+use Rattle.ns_moves.specs.Lawful.{LawfulControl}
+use Rattle.ns_moves.specs.Fitting.{FitsNext}
+use Rattle.ns_moves.specs.Arrivals.{arrived}
+use Rattle.ns_moves.specs.declared.sends.Answered.{Answered}
+use Rattle.ns_moves.specs.declared.sends.Answered.TheVariants as answers
+use Rattle.ns_moves.specs.Answered.{answered_shown}
+use Rattle.ns_moves.specs.Plain.{IsOwnGiven, IsPlain}
 use Rattle.ns_kernel_rows.specs.Plain.{IsGivenThere}
 use Rattle.ns_machine_frames.specs.declared.frame.Frame.{Frame}
 use Rattle.ns_machine_frames.specs.declared.registers.Registers.{Registers}

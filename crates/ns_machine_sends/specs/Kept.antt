@@ -4,14 +4,14 @@ use Rattle.ns_base.specs.declared.selector.Sel.{Sel}
 use Rattle.ns_code.specs.declared.program.CodeProgram.{CodeProgram}
 use Rattle.ns_world.specs.declared.value.Value.{Value}
 use Rattle.ns_world.specs.Lawful.{IsLawful, IsLiveValue}
-use Rattle.ns_actions.specs.declared.control.Reached.{Reached}
-use Rattle.ns_actions.specs.Control.{Control}
+use Rattle.ns_moves.specs.declared.control.Reached.{Reached}
+use Rattle.ns_moves.specs.Control.{Control}
 use Rattle.ns_world.specs.KernelTable.{row_at}
-use Rattle.ns_actions.specs.Suiting.{RowSuits}
-use Rattle.ns_actions.specs.declared.sends.Answered.{Answered}
-use Rattle.ns_actions.specs.declared.sends.Answered.TheVariants as answers
-use Rattle.ns_actions.specs.Answered.{answered_shown}
-use Rattle.ns_actions.specs.Plain.{IsPlain}
+use Rattle.ns_moves.specs.Suiting.{RowSuits}
+use Rattle.ns_moves.specs.declared.sends.Answered.{Answered}
+use Rattle.ns_moves.specs.declared.sends.Answered.TheVariants as answers
+use Rattle.ns_moves.specs.Answered.{answered_shown}
+use Rattle.ns_moves.specs.Plain.{IsPlain}
 use Rattle.ns_machine_frames.specs.View.{site_shown}
 use Rattle.ns_machine_core.specs.declared.state.Core.{Core}
 use Rattle.ns_machine_core.specs.Shown.{progress_in}

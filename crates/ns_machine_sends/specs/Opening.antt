@@ -5,8 +5,8 @@ use Rattle.ns_world.specs.declared.value.Value.{Value}
 use Rattle.ns_world.specs.declared.value.Value.TheVariants.{Nil}
 use Rattle.ns_world.specs.Heap.{heap_size}
 use Rattle.ns_world.specs.World.{World, entered}
-use Rattle.ns_actions.specs.Bodies.{opened}
-use Rattle.ns_actions.specs.Control.{Activation, Control, Progress, halts, in_world}
+use Rattle.ns_moves.specs.Bodies.{opened}
+use Rattle.ns_moves.specs.Control.{Activation, Control, Progress, halts, in_world}
 use Rattle.ns_machine_frames.specs.declared.calls.BodyShape.{BodyShape}
 use Rattle.ns_machine_core.specs.Arriving.{shape_of}
 

@@ -6,10 +6,10 @@ use Rattle.ns_code.specs.declared.instruction.Instr.{Instr}
 use Rattle.ns_code.specs.Table.{takes, leaves, goes_on}
 use Rattle.ns_world.specs.declared.value.Value.{Value}
 use Rattle.ns_find.specs.declared.found.Sending.{Sending}
-use Rattle.ns_actions.specs.Control.{Activation}
-use Rattle.ns_actions.specs.Sends.{To, sent}
-use Rattle.ns_machine_moves.specs.Arrivals.{arrived}
-use Rattle.ns_machine_moves.specs.WorldAsks.{SelectorTakes}
+use Rattle.ns_moves.specs.Control.{Activation}
+use Rattle.ns_moves.specs.Sends.{To, sent}
+use Rattle.ns_moves.specs.Arrivals.{arrived}
+use Rattle.ns_moves.specs.WorldAsks.{SelectorTakes}
 use Rattle.ns_machine_frames.specs.declared.registers.Registers.{Registers}
 use Rattle.ns_machine_frames.specs.Standing.{Stood, pushed, pushed_all}
 use Rattle.ns_machine_frames.specs.Stack.{in_use, stood}

@@ -4,12 +4,12 @@ use Rattle.ns_code.specs.declared.program.CodeProgram.{CodeProgram}
 use Rattle.ns_world.specs.declared.value.Value.{Value}
 use Rattle.ns_world.specs.Starts.{class_name_of}
 use Rattle.ns_world.specs.Lawful.{IsLawful, IsLiveValue}
-use Rattle.ns_actions.specs.Control.{Activation, Control}
-use Rattle.ns_actions.specs.Lawful.{FitsSelector}
-use Rattle.ns_actions.specs.Sends.{Target}
-use Rattle.ns_actions.specs.Sends as sends
-use Rattle.ns_machine_moves.specs.Arrivals.{arrived}
-use Rattle.ns_actions.specs.Answered.{answered}
+use Rattle.ns_moves.specs.Control.{Activation, Control}
+use Rattle.ns_moves.specs.Lawful.{FitsSelector}
+use Rattle.ns_moves.specs.Sends.{Target}
+use Rattle.ns_moves.specs.Sends as sends
+use Rattle.ns_moves.specs.Arrivals.{arrived}
+use Rattle.ns_moves.specs.Answered.{answered}
 use Rattle.ns_machine_frames.specs.declared.registers.Registers.{Registers}
 use Rattle.ns_machine_frames.specs.Stack.{stood, with_top}
 use Rattle.ns_machine_frames.specs.View.{site_shown, frames_shown}

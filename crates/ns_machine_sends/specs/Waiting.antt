@@ -6,12 +6,12 @@ use Rattle.ns_world.specs.Lawful.{IsLawful, IsLiveValue}
 use Rattle.ns_world.specs.Starts.{start_of}
 use Rattle.ns_find.specs.declared.found.Sending.TheVariants.{Plain}
 use Rattle.ns_find.specs.Find.{found_from}
-use Rattle.ns_actions.specs.declared.control.Reached.{Reached}
-use Rattle.ns_actions.specs.declared.control.Reached.TheVariants as reached
-use Rattle.ns_actions.specs.Control.{Control, gives}
-use Rattle.ns_actions.specs.Lawful.{FitsSelector}
-use Rattle.ns_actions.specs.Sends.{answered_by, sent_from}
-use Rattle.ns_actions.specs.Blocks.{is_block, evaluated}
+use Rattle.ns_moves.specs.declared.control.Reached.{Reached}
+use Rattle.ns_moves.specs.declared.control.Reached.TheVariants as reached
+use Rattle.ns_moves.specs.Control.{Control, gives}
+use Rattle.ns_moves.specs.Lawful.{FitsSelector}
+use Rattle.ns_moves.specs.Sends.{answered_by, sent_from}
+use Rattle.ns_moves.specs.Blocks.{is_block, evaluated}
 use Rattle.ns_code.specs.declared.program.CodeProgram.{CodeProgram}
 use Rattle.ns_facets.specs.declared.row.Grants.{Grants}
 use Rattle.ns_world.specs.declared.value.Value.{Value}

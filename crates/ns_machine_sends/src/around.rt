@@ -4,9 +4,9 @@ ghost use Rattle.std.specs.Prelude.{◌≡◌, length, slice_get, IsSome};
 ghost use Rattle.ns_code.specs.declared.instruction.Instr.TheVariants as instr;
 ghost use Rattle.ns_code.specs.declared.own.Own.TheVariants.{DoesNotUnderstand};
 ghost use Rattle.ns_code.specs.Selector.{own_number};
-ghost use Rattle.ns_actions.specs.Lawful.{FitsActivation, declaration_at};
-ghost use Rattle.ns_actions.specs.Sends.{ToPrivate, ToSuper, receiver_of};
-ghost use Rattle.ns_actions.specs.Running.{code_of};
+ghost use Rattle.ns_moves.specs.Lawful.{FitsActivation, declaration_at};
+ghost use Rattle.ns_moves.specs.Sends.{ToPrivate, ToSuper, receiver_of};
+ghost use Rattle.ns_moves.specs.Running.{code_of};
 ghost use Rattle.ns_machine_core.specs.Doing.{CanDo, IsDone};
 ghost use Rattle.ns_machine_core.specs.Own.{AreOwn};
 ghost use Rattle.ns_machine_sends.specs.Going.{ControlGoesOn};
@@ -14,15 +14,6 @@ ghost use Rattle.ns_machine_sends.specs.Sending.{CanSend, looked_up, sent_at, Se
 
 use crate::going::go_on;
 use crate::sent::Sent;
-use ns_actions::answer_laws::a_send_is_its_step_and_its_answer;
-use ns_actions::enclosing::enclosing;
-use ns_actions::finding::enclosing_objects_are_there;
-use ns_actions::laws::{
-    actions_spend_exactly, rows_that_are_found_suit, sends_keep_lawful, sites_stay,
-    what_is_handed_on_fits,
-};
-use ns_actions::running::Running;
-use ns_actions::targets::class_of;
 use ns_base::selector::Sel;
 use ns_code::program::CodeProgram;
 use ns_machine_core::own::OwnSends;
@@ -31,6 +22,15 @@ use ns_machine_core::state::{Core, Next};
 use ns_machine_frames::frame::KeptSite;
 use ns_machine_frames::laws::operands_are_taken;
 use ns_machine_frames::registers::Registers;
+use ns_moves::answer_laws::a_send_is_its_step_and_its_answer;
+use ns_moves::enclosing::enclosing;
+use ns_moves::finding::enclosing_objects_are_there;
+use ns_moves::laws::{
+    actions_spend_exactly, rows_that_are_found_suit, sends_keep_lawful, sites_stay,
+    what_is_handed_on_fits,
+};
+use ns_moves::running::Running;
+use ns_moves::targets::class_of;
 use ns_world::ending::Ending;
 use ns_world::lawful::charging_keeps_lawful;
 use ns_world::value::Value;
@@ -112,7 +112,7 @@ fn look_above(
 {
     rows_that_are_found_suit();
     let arguments = core.stack.from(at, sent.first);
-    let answered = ns_actions::targets::send_super(
+    let answered = ns_moves::targets::send_super(
         &mut core.run,
         code,
         own,
@@ -222,7 +222,7 @@ fn look_around(
 {
     rows_that_are_found_suit();
     let arguments = core.stack.from(at, sent.first);
-    let answered = ns_actions::targets::send_private(
+    let answered = ns_moves::targets::send_private(
         &mut core.run,
         code,
         own,

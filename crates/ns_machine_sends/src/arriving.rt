@@ -2,7 +2,7 @@
 
 ghost use Rattle.std.specs.Prelude.{◌<◌, length};
 ghost use Rattle.ns_world.specs.Lawful.{IsLawful, IsLiveValue};
-ghost use Rattle.ns_actions.specs.declared.control.Reached.TheVariants as reached;
+ghost use Rattle.ns_moves.specs.declared.control.Reached.TheVariants as reached;
 ghost use Rattle.ns_machine_core.specs.Arriving.{Arrives};
 ghost use Rattle.ns_machine_core.specs.Doing.{IsRunning};
 ghost use Rattle.ns_machine_sends.specs.Going.{control_at, IsLeft, ControlGoesOn, IsGiven, ComesToBody};
@@ -12,8 +12,6 @@ use crate::ending::{fail, refuse};
 use crate::entering::{enter_kept, enter_reached};
 use crate::evaluating::{wait_for, wait_for_kept};
 use crate::sent::Sent;
-use ns_actions::control::Reached;
-use ns_actions::targets::class_of;
 use ns_base::selector::Sel;
 use ns_code::program::CodeProgram;
 use ns_kcode::state::KState;
@@ -22,6 +20,8 @@ use ns_machine_core::settling::settle;
 use ns_machine_core::state::{Core, Next};
 use ns_machine_frames::frame::{KeptSite, LoopingFrame, Pending};
 use ns_machine_frames::registers::Registers;
+use ns_moves::control::Reached;
+use ns_moves::targets::class_of;
 use ns_world::kernel_parts::KMethod;
 use ns_world::value::Value;
 

@@ -11,15 +11,15 @@ ghost use Rattle.ns_machine_sends.specs.Waiting.{BlockWaits, IsWaiting, with_blo
 use crate::entering::enter_shaped;
 use crate::opening::{has_room, open_block};
 use crate::sent::Sent;
-use ns_actions::control::Exit;
-use ns_actions::laws::{
-    actions_spend_exactly, sends_keep_lawful, sites_stay, what_is_handed_on_fits,
-};
-use ns_actions::running::Running;
 use ns_code::program::CodeProgram;
 use ns_machine_core::arriving::shape_of;
 use ns_machine_core::state::Core;
 use ns_machine_frames::registers::Registers;
+use ns_moves::control::Exit;
+use ns_moves::laws::{
+    actions_spend_exactly, sends_keep_lawful, sites_stay, what_is_handed_on_fits,
+};
+use ns_moves::running::Running;
 use ns_world::cell::NewCell;
 use ns_world::world::World;
 

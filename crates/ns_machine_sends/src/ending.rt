@@ -1,6 +1,6 @@
 //! What ends a run at a site.
 
-ghost use Rattle.ns_actions.specs.declared.control.Reached.TheVariants as reached;
+ghost use Rattle.ns_moves.specs.declared.control.Reached.TheVariants as reached;
 ghost use Rattle.ns_machine_core.specs.Arriving.{Arrives};
 ghost use Rattle.ns_machine_sends.specs.Going.{control_at};
 

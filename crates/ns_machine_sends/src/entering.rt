@@ -1,11 +1,11 @@
 //! The body that a send or an evaluation has reached.
 
 ghost use Rattle.std.specs.Prelude.{◌≡◌, length, true, false};
-ghost use Rattle.ns_actions.specs.declared.control.Given.TheVariants as given;
-ghost use Rattle.ns_actions.specs.declared.control.Reached.TheVariants as reached;
-ghost use Rattle.ns_actions.specs.Bodies.{has_environment};
-ghost use Rattle.ns_actions.specs.Shown.{passed};
-ghost use Rattle.ns_actions.specs.Plain.{IsOwnGiven};
+ghost use Rattle.ns_moves.specs.declared.control.Given.TheVariants as given;
+ghost use Rattle.ns_moves.specs.declared.control.Reached.TheVariants as reached;
+ghost use Rattle.ns_moves.specs.Bodies.{has_environment};
+ghost use Rattle.ns_moves.specs.Shown.{passed};
+ghost use Rattle.ns_moves.specs.Plain.{IsOwnGiven};
 ghost use Rattle.ns_machine_core.specs.declared.state.Next.TheVariants as next;
 ghost use Rattle.ns_machine_core.specs.Arriving as spec;
 ghost use Rattle.ns_machine_core.specs.Arriving.{Arrives};
@@ -14,7 +14,6 @@ ghost use Rattle.ns_machine_sends.specs.Kept.{kept_control};
 
 use crate::placing::place_kept;
 use crate::sent::Sent;
-use ns_actions::control::{Entered, Exit, Given};
 use ns_code::program::CodeProgram;
 use ns_machine_core::arriving::{enter, shape_of};
 use ns_machine_core::laws::what_is_reached_can_be_entered;
@@ -22,6 +21,7 @@ use ns_machine_core::state::Core;
 use ns_machine_frames::calls::{BodyShape, Call, leaving_of};
 use ns_machine_frames::laws::frames_have_room;
 use ns_machine_frames::registers::Registers;
+use ns_moves::control::{Entered, Exit, Given};
 
 /// Enters a body on its arguments where they stand.
 #[inline(always)]

@@ -3,8 +3,8 @@
 ghost use Rattle.std.specs.Prelude.{length};
 ghost use Rattle.ns_world.specs.declared.value.Value.TheVariants.{Ref};
 ghost use Rattle.ns_kdata.specs.Arguments.{CellIsThere};
-ghost use Rattle.ns_actions.specs.declared.control.Given.TheVariants as given;
-ghost use Rattle.ns_actions.specs.declared.control.Reached.TheVariants as reached;
+ghost use Rattle.ns_moves.specs.declared.control.Given.TheVariants as given;
+ghost use Rattle.ns_moves.specs.declared.control.Reached.TheVariants as reached;
 ghost use Rattle.ns_kernel_rows.specs.Plain.{IsGivenThere};
 ghost use Rattle.ns_machine_core.specs.Arriving.{Arrives};
 ghost use Rattle.ns_machine_sends.specs.Going.{control_at, ControlGoesOn, IsLeft};
@@ -12,11 +12,11 @@ ghost use Rattle.ns_machine_sends.specs.Kept.{kept_control};
 
 use crate::placing::keep_items;
 use crate::sent::Sent;
-use ns_actions::control::Given;
 use ns_code::program::CodeProgram;
 use ns_machine_core::arriving::{wait_for_block, wait_for_block_kept};
 use ns_machine_core::state::{Core, Next};
 use ns_machine_frames::registers::Registers;
+use ns_moves::control::Given;
 use ns_world::value::Value;
 
 /// Lets the evaluation of a block wait, with its arguments where they stand, or with the elements of an array.

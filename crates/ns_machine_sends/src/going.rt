@@ -2,17 +2,17 @@
 
 ghost use Rattle.std.specs.Prelude.{◌≡◌, length};
 ghost use Rattle.ns_world.specs.KernelTable.{row_at};
-ghost use Rattle.ns_actions.specs.declared.sends.Answered.TheVariants as answers;
+ghost use Rattle.ns_moves.specs.declared.sends.Answered.TheVariants as answers;
 ghost use Rattle.ns_machine_core.specs.Doing.{IsRunning};
 ghost use Rattle.ns_machine_sends.specs.Going.{ControlGoesOn, IsLeft, answered_at, CanAsk, CanAnswer, Leads};
 
 use crate::arriving::arrive;
 use crate::sent::Sent;
-use ns_actions::sends::Answered;
 use ns_code::program::CodeProgram;
 use ns_kernel_rows::row::row_reached;
 use ns_machine_core::state::{Core, Next};
 use ns_machine_frames::registers::Registers;
+use ns_moves::sends::Answered;
 use ns_world::kernel_row::Row;
 use ns_world::kernel_table::row_of;
 use ns_world::value::Value;

@@ -1,22 +1,22 @@
 //! Bodies that are opened where the limits have room for them: their frame is charged, and their environment is made.
 
 ghost use Rattle.std.specs.Prelude.{◌≡◌, ◌<◌, length, Decides};
-ghost use Rattle.ns_actions.specs.declared.control.Exit.TheVariants as exit;
-ghost use Rattle.ns_actions.specs.declared.control.Given.TheVariants as given;
-ghost use Rattle.ns_actions.specs.declared.control.Reached.TheVariants as reached;
-ghost use Rattle.ns_actions.specs.Bodies.{no_home};
-ghost use Rattle.ns_actions.specs.Sends.{Listed, method_entered};
-ghost use Rattle.ns_actions.specs.Room.{HasCellRoom, SameRest};
-ghost use Rattle.ns_actions.specs.StatedAnswers.{RunReachesAs};
+ghost use Rattle.ns_moves.specs.declared.control.Exit.TheVariants as exit;
+ghost use Rattle.ns_moves.specs.declared.control.Given.TheVariants as given;
+ghost use Rattle.ns_moves.specs.declared.control.Reached.TheVariants as reached;
+ghost use Rattle.ns_moves.specs.Bodies.{no_home};
+ghost use Rattle.ns_moves.specs.Sends.{Listed, method_entered};
+ghost use Rattle.ns_moves.specs.Room.{HasCellRoom, SameRest};
+ghost use Rattle.ns_moves.specs.StatedAnswers.{RunReachesAs};
 ghost use Rattle.ns_machine_core.specs.Arriving.{shape_of};
 ghost use Rattle.ns_machine_sends.specs.Opening.{CellsFit, ChargesAndOpens, HasRoomFor, OpensBody};
 ghost use Rattle.ns_machine_sends.specs.Blocks.{OpensOrNot};
 
-use ns_actions::control::{Entered, Given};
-use ns_actions::run::Run;
-use ns_actions::running::Running;
 use ns_code::program::CodeProgram;
 use ns_machine_frames::calls::BodyShape;
+use ns_moves::control::{Entered, Given};
+use ns_moves::run::Run;
+use ns_moves::running::Running;
 use ns_world::value::Value;
 use ns_world::world::World;
 

@@ -4,7 +4,7 @@
 ghost use Rattle.std.specs.Prelude.{◌≡◌, length};
 ghost use Rattle.ns_code.specs.declared.own.Own.TheVariants.{DoesNotUnderstand};
 ghost use Rattle.ns_code.specs.Selector.{own_number};
-ghost use Rattle.ns_actions.specs.declared.sends.Answered.TheVariants as answers;
+ghost use Rattle.ns_moves.specs.declared.sends.Answered.TheVariants as answers;
 ghost use Rattle.ns_machine_sends.specs.Going.{ControlGoesOn, IsLeft, IsGiven};
 ghost use Rattle.ns_machine_sends.specs.Kept.{kept_control, kept_answer, CanAskKept, CanAnswerKept};
 ghost use Rattle.ns_machine_sends.specs.Waiting.{CanSendOn, sent_on_at, looked_on, SendLeadsTo, LeadsKept};
@@ -12,15 +12,15 @@ ghost use Rattle.ns_machine_sends.specs.Waiting.{CanSendOn, sent_on_at, looked_o
 use crate::arriving::arrive_kept;
 use crate::led::Led;
 use crate::sent::Sent;
-use ns_actions::control::Reached;
-use ns_actions::laws::{actions_spend_exactly, rows_that_are_found_suit, sends_that_waited_go_on};
-use ns_actions::sends::Answered;
 use ns_base::selector::Sel;
 use ns_code::program::CodeProgram;
 use ns_find::found::Sending;
 use ns_kernel_rows::row::row_reached;
 use ns_machine_core::state::{Core, Next};
 use ns_machine_frames::registers::Registers;
+use ns_moves::control::Reached;
+use ns_moves::laws::{actions_spend_exactly, rows_that_are_found_suit, sends_that_waited_go_on};
+use ns_moves::sends::Answered;
 use ns_world::ending::Ending;
 use ns_world::kernel_table::row_of;
 use ns_world::lawful::charging_keeps_lawful;
@@ -68,7 +68,7 @@ fn look_on(
     ensures { SendLeadsTo code.now core.old at sent.floor (looked_on code.now core.old sent receiver sel) core.new result }
 {
     rows_that_are_found_suit();
-    let answered = ns_actions::answering::send(
+    let answered = ns_moves::answering::send(
         &mut core.run,
         code,
         own,

@@ -5,25 +5,25 @@ ghost use Rattle.ns_code.specs.declared.own.Own.TheVariants.{DoesNotUnderstand};
 ghost use Rattle.ns_code.specs.Selector.{own_number};
 ghost use Rattle.ns_world.specs.Starts.{start_of};
 ghost use Rattle.ns_find.specs.Find.{found_from};
-ghost use Rattle.ns_actions.specs.Control.{Activation};
-ghost use Rattle.ns_actions.specs.Sends.{To};
+ghost use Rattle.ns_moves.specs.Control.{Activation};
+ghost use Rattle.ns_moves.specs.Sends.{To};
 ghost use Rattle.ns_machine_sends.specs.Going.{ControlGoesOn};
 ghost use Rattle.ns_machine_sends.specs.Sending.{CanSend, looked_up, sent_at, Sends};
 
 use crate::going::go_on;
 use crate::sent::Sent;
-use ns_actions::answer_laws::a_send_is_its_step_and_its_answer;
-use ns_actions::answering::{answered_by, found_of};
-use ns_actions::finding::what_is_found_suits;
-use ns_actions::laws::{
-    actions_spend_exactly, rows_that_are_found_suit, sends_keep_lawful, sites_stay,
-    what_is_handed_on_fits,
-};
 use ns_base::selector::Sel;
 use ns_code::program::CodeProgram;
 use ns_find::found::{Found, Sending};
 use ns_machine_core::state::{Core, Next};
 use ns_machine_frames::registers::Registers;
+use ns_moves::answer_laws::a_send_is_its_step_and_its_answer;
+use ns_moves::answering::{answered_by, found_of};
+use ns_moves::finding::what_is_found_suits;
+use ns_moves::laws::{
+    actions_spend_exactly, rows_that_are_found_suit, sends_keep_lawful, sites_stay,
+    what_is_handed_on_fits,
+};
 use ns_world::ending::Ending;
 use ns_world::lawful::charging_keeps_lawful;
 use ns_world::value::Value;

@@ -8,7 +8,6 @@ ghost use Rattle.ns_machine_sends.specs.Operands.{SendsOperands, SendsToTop};
 
 use crate::sending::send_to;
 use crate::sent::Sent;
-use ns_actions::targets::class_of;
 use ns_base::selector::Sel;
 use ns_code::program::CodeProgram;
 use ns_find::found::Sending;
@@ -17,6 +16,7 @@ use ns_machine_core::state::{Core, Next};
 use ns_machine_frames::frame::KeptSite;
 use ns_machine_frames::laws::operands_are_taken;
 use ns_machine_frames::registers::Registers;
+use ns_moves::targets::class_of;
 
 /// Sends to a value, whose public members alone it reaches.
 #[inline(always)]

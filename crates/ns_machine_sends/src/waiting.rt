@@ -13,13 +13,13 @@ use crate::arriving::arrive_kept;
 use crate::ending::{fail, refuse};
 use crate::entering::enter_reached;
 use crate::sent::Sent;
-use ns_actions::control::Reached;
-use ns_actions::laws::{
-    actions_spend_exactly, sends_keep_lawful, sites_stay, what_is_handed_on_fits,
-};
 use ns_code::program::CodeProgram;
 use ns_machine_core::state::{Core, Next};
 use ns_machine_frames::registers::Registers;
+use ns_moves::control::Reached;
+use ns_moves::laws::{
+    actions_spend_exactly, sends_keep_lawful, sites_stay, what_is_handed_on_fits,
+};
 use ns_world::value::Value;
 
 /// Evaluates the block that waits.
@@ -83,7 +83,7 @@ fn enter_block(code: &CodeProgram, core: &mut Core, at: Registers, sent: Sent, b
     actions_spend_exactly();
     sites_stay();
     let arguments = core.stack.from(at, sent.first);
-    let reached = ns_actions::blocks::evaluate(&mut core.run.world, code, block, arguments);
+    let reached = ns_moves::blocks::evaluate(&mut core.run.world, code, block, arguments);
     arrive_in(code, core, at, sent, reached)
 }
 
@@ -105,7 +105,7 @@ fn enter_block_kept(
     actions_spend_exactly();
     sites_stay();
     let arguments = core.arguments.as_slice();
-    let reached = ns_actions::blocks::evaluate(&mut core.run.world, code, block, arguments);
+    let reached = ns_moves::blocks::evaluate(&mut core.run.world, code, block, arguments);
     arrive_kept(code, core, at, sent, reached)
 }
 

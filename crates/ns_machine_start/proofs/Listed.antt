@@ -7,7 +7,7 @@ use Rattle.ns_world.specs.declared.value.Value.TheVariants.{Ref}
 use Rattle.ns_world.specs.declared.cell.CellLimit.{CellLimit}
 use Rattle.ns_world.specs.Cell.{TextCell, cell_size}
 use Rattle.ns_world.specs.World.{WorldView}
-use Rattle.ns_actions.specs.Start.{top_if, tops_of, size_of_cells}
+use Rattle.ns_moves.specs.Start.{top_if, tops_of, size_of_cells}
 use Rattle.ns_machine_start.specs.Making.{CellsAreMade, referring}
 use Rattle.ns_machine_start.proofs.Made.{both_made, both_stopped}
 

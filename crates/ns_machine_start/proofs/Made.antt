@@ -8,9 +8,9 @@ use Rattle.ns_world.specs.declared.ending.LimitKind.TheVariants.{Cells}
 use Rattle.ns_world.specs.Cell.{Cell, cell_size}
 use Rattle.ns_world.specs.Heap.{heap_size}
 use Rattle.ns_world.specs.World.{World, WorldView, MakesCell, made}
-use Rattle.ns_actions.specs.Control.{Progress, in_world, Halts, charged}
-use Rattle.ns_actions.specs.Start.{all_made, size_of_cells}
-use Rattle.ns_actions.specs.Room.{SameRest}
+use Rattle.ns_moves.specs.Control.{Progress, in_world, Halts, charged}
+use Rattle.ns_moves.specs.Start.{all_made, size_of_cells}
+use Rattle.ns_moves.specs.Room.{SameRest}
 use Rattle.ns_machine_start.specs.Making.{going_on, CellsAreMade, unnumbered}
 
 -- ---- sizes

@@ -10,8 +10,8 @@ use Rattle.ns_world.specs.declared.ending.Ending.TheVariants.{Limit}
 use Rattle.ns_world.specs.Cell.{Cell, ArrayCell, TextCell}
 use Rattle.ns_world.specs.Heap.{heap_size}
 use Rattle.ns_world.specs.World.{World, WorldView, MakesCell}
-use Rattle.ns_actions.specs.Control.{Progress, in_world, Gives, Halts, charged}
-use Rattle.ns_actions.specs.Start.{all_made, size_of_cells, numbers_from, standing_cells, start_cells}
+use Rattle.ns_moves.specs.Control.{Progress, in_world, Gives, Halts, charged}
+use Rattle.ns_moves.specs.Start.{all_made, size_of_cells, numbers_from, standing_cells, start_cells}
 use Rattle.ns_machine_start.specs.Making.{going_on, start_shown, CellsAreMade, referring}
 
 -- what follows some cells that were made

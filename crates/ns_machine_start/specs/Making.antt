@@ -8,9 +8,9 @@ use Rattle.ns_world.specs.declared.ending.Ending.TheVariants.{Limit}
 use Rattle.ns_world.specs.Cell.{Cell, TextCell}
 use Rattle.ns_world.specs.Heap.{heap_size}
 use Rattle.ns_world.specs.World.{WorldView}
-use Rattle.ns_actions.specs.Control.{Progress, in_world, After, Gives, Halts}
-use Rattle.ns_actions.specs.Start.{all_made, numbers_from, size_of_cells}
-use Rattle.ns_actions.specs.Room.{SameRest}
+use Rattle.ns_moves.specs.Control.{Progress, in_world, After, Gives, Halts}
+use Rattle.ns_moves.specs.Start.{all_made, numbers_from, size_of_cells}
+use Rattle.ns_moves.specs.Room.{SameRest}
 
 -- how a start goes on with other cells: it makes them, or has ended where one before them didn't fit
 abbrev pub going_on : Result (Unit {0}) CellLimit → List Cell → Progress → After

@@ -3,8 +3,8 @@
 ghost use Rattle.std.specs.Prelude.{◌∷◌, ◌≤◌, [], length, IsTrue, Option};
 ghost use Rattle.ns_world.specs.Cell.{fresh};
 ghost use Rattle.ns_world.specs.Heap.{has_superclass};
-ghost use Rattle.ns_actions.specs.Start.{facet_if, facets_of, top_if, tops_of, standing_cells};
-ghost use Rattle.ns_actions.specs.Room.{HasCellRoom};
+ghost use Rattle.ns_moves.specs.Start.{facet_if, facets_of, top_if, tops_of, standing_cells};
+ghost use Rattle.ns_moves.specs.Room.{HasCellRoom};
 ghost use Rattle.ns_machine_start.specs.Making.{CellsAreMade};
 
 use ns_code::class::ClassCode;

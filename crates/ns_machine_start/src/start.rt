@@ -4,9 +4,9 @@ ghost use Rattle.std.specs.Prelude.{◌≡◌, ◌≤◌, [], length, IfOk, OnEr
 ghost use Rattle.std.specs.Vec.{vec_capacity};
 ghost use Rattle.ns_world.specs.declared.value.Value.TheVariants.{Nil};
 ghost use Rattle.ns_world.specs.World.{empty_world};
-ghost use Rattle.ns_actions.specs.Control.{Progress, in_world};
-ghost use Rattle.ns_actions.specs.Start.{nothing_done, start_cells, all_made, start_made};
-ghost use Rattle.ns_actions.specs.Room.{HasCellRoom, SameRest};
+ghost use Rattle.ns_moves.specs.Control.{Progress, in_world};
+ghost use Rattle.ns_moves.specs.Start.{nothing_done, start_cells, all_made, start_made};
+ghost use Rattle.ns_moves.specs.Room.{HasCellRoom, SameRest};
 ghost use Rattle.ns_machine_start.specs.Making.{start_shown};
 
 use crate::cells::make_standing;

@@ -4,7 +4,7 @@ ghost use Rattle.std.specs.Prelude.{◌≡◌, ◌≤◌, ◌∷◌, [], length,
 ghost use Rattle.std.specs.Vec.{vec_capacity};
 ghost use Rattle.ns_world.specs.Cell.{TextCell};
 ghost use Rattle.ns_world.specs.Heap.{heap_size};
-ghost use Rattle.ns_actions.specs.Room.{HasCellRoom};
+ghost use Rattle.ns_moves.specs.Room.{HasCellRoom};
 ghost use Rattle.ns_machine_start.specs.Making.{CellsAreMade, referring, unnumbered};
 
 use ns_base::text::Text;

@@ -8,8 +8,8 @@ use Rattle.ns_world.specs.declared.cell.FacetKind.{FacetKind}
 use Rattle.ns_world.specs.declared.cell.FacetKind.TheVariants as facet
 use Rattle.ns_world.specs.Cell.{Cell, ObjectCell, ClassCell, BlockCell, EnvironmentCell, ArrayCell, TextCell, FacetCell, MirrorCell, MessageCell, text_words}
 use Rattle.ns_world.specs.Heap.{Heap, heap_size}
-use Rattle.ns_actions.specs.Start.{facet_if, facets_of, top_if, tops_of, standing_cells, size_of_cells}
-use Rattle.ns_machine_moves.specs.Valid.{BeginsWith, array_behind}
+use Rattle.ns_moves.specs.Start.{facet_if, facets_of, top_if, tops_of, standing_cells, size_of_cells}
+use Rattle.ns_moves.specs.Valid.{BeginsWith, array_behind}
 use Rattle.ns_frozen.specs.declared.cell.CellData.{CellData}
 use Rattle.ns_frozen.specs.Freezing.{cell_frozen, cells_frozen}
 use Rattle.ns_frozen.specs.Thawing.{heap_thawed, arguments_in}

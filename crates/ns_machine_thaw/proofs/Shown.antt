@@ -4,12 +4,12 @@ use Rattle.ns_base.specs.declared.place.Place.{Place as SourcePlace}
 use Rattle.ns_code.specs.declared.program.CodeProgram.{CodeProgram}
 use Rattle.ns_world.specs.declared.kernel_parts.KMethod.{KMethod}
 use Rattle.ns_kcode.specs.declared.state.KState.{KState}
-use Rattle.ns_actions.specs.declared.site.Site.{Site}
-use Rattle.ns_actions.specs.Bodies.{greatest_of}
-use Rattle.ns_actions.specs.Control.{FromClause}
-use Rattle.ns_machine_moves.specs.State as run
-use Rattle.ns_machine_moves.specs.State.{Loud}
-use Rattle.ns_machine_moves.specs.Steps.{PlacedInstr, steps_from}
+use Rattle.ns_moves.specs.declared.site.Site.{Site}
+use Rattle.ns_moves.specs.Bodies.{greatest_of}
+use Rattle.ns_moves.specs.Control.{FromClause}
+use Rattle.ns_moves.specs.State as run
+use Rattle.ns_moves.specs.State.{Loud}
+use Rattle.ns_moves.specs.Steps.{PlacedInstr, steps_from}
 use Rattle.ns_frozen.specs.declared.frame.FrameKind.TheVariants as kinds
 use Rattle.ns_frozen.specs.declared.frame.FrozenFrame.{FrozenFrame}
 use Rattle.ns_frozen.specs.Thawing.{rest_thawed, running_thawed, frame_thawed, initialiser_leaves}

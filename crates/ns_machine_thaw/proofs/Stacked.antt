@@ -6,8 +6,8 @@ use Rattle.std.proofs.lemmas.Nat.{mul-le}
 use Rattle.std.specs.Prelude.{nat_lt}
 use Rattle.ns_base.specs.declared.place.Place.{Place as SourcePlace}
 use Rattle.ns_code.specs.declared.program.CodeProgram.{CodeProgram}
-use Rattle.ns_actions.specs.Bodies.{height_in, greatest_of}
-use Rattle.ns_machine_moves.specs.State as run
+use Rattle.ns_moves.specs.Bodies.{height_in, greatest_of}
+use Rattle.ns_moves.specs.State as run
 use Rattle.ns_frozen.specs.declared.frame.FrozenFrame.{FrozenFrame}
 use Rattle.ns_frozen.specs.Thawing.{is_at_super, is_below, frame_thawed, frames_onto, frames_thawed}
 use Rattle.ns_machine_frames.specs.declared.frame.Frame.{Frame}

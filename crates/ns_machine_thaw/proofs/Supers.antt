@@ -5,9 +5,9 @@ use Rattle.ns_code.specs.declared.program.CodeProgram.{CodeProgram}
 use Rattle.ns_code.specs.declared.body.BodyCode.{BodyCode}
 use Rattle.ns_code.specs.declared.instruction.Instr.{Instr}
 use Rattle.ns_code.specs.declared.instruction.Instr.TheVariants.{ReturnSelf}
-use Rattle.ns_machine_moves.specs.Steps.{PlacedInstr, placed, steps_of}
-use Rattle.ns_machine_moves.specs.ValidFrames.{is_super_part}
-use Rattle.ns_machine_moves.specs.laws.Steps.{placed_at}
+use Rattle.ns_moves.specs.Steps.{PlacedInstr, placed, steps_of}
+use Rattle.ns_moves.specs.ValidFrames.{is_super_part}
+use Rattle.ns_moves.specs.laws.Steps.{placed_at}
 use Rattle.ns_frozen.specs.Thawing.{is_super_at}
 use Rattle.ns_machine_plan.specs.declared.step.Step.{Step}
 use Rattle.ns_machine_plan.specs.Plan.{HasStep, IsStepAt}

@@ -19,12 +19,12 @@ use Rattle.ns_verify.specs.Places.{height_before, HeightsAgree}
 use Rattle.ns_world.specs.declared.value.Value.{Value}
 use Rattle.ns_world.specs.declared.value.Value.TheVariants.{Nil, True, False, Int, Sym, Kernel, Ref}
 use Rattle.ns_world.specs.Heap.{Heap, cell_number}
-use Rattle.ns_actions.specs.Bodies as bodies
-use Rattle.ns_actions.specs.Bodies.{has_environment, height_in, greatest_of, clause_of, no_home}
-use Rattle.ns_actions.specs.Fitting.{environment_body, locals_beside}
-use Rattle.ns_machine_moves.specs.Steps.{placed, steps_of}
-use Rattle.ns_machine_moves.specs.ValidFrames.{height_of}
-use Rattle.ns_machine_moves.specs.laws.Steps.{placed_length}
+use Rattle.ns_moves.specs.Bodies as bodies
+use Rattle.ns_moves.specs.Bodies.{has_environment, height_in, greatest_of, clause_of, no_home}
+use Rattle.ns_moves.specs.Fitting.{environment_body, locals_beside}
+use Rattle.ns_moves.specs.Steps.{placed, steps_of}
+use Rattle.ns_moves.specs.ValidFrames.{height_of}
+use Rattle.ns_moves.specs.laws.Steps.{placed_length}
 use Rattle.ns_frozen.specs.declared.fault.RestoreFault.TheVariants.{BadCell, BadFrame, BadRest}
 use Rattle.ns_frozen.specs.declared.frame.FrameKind.{FrameKind}
 use Rattle.ns_frozen.specs.declared.frame.FrameKind.TheVariants as kinds

@@ -3,8 +3,8 @@ use Rattle.std.proofs.Common.{◌≡◌, ℕ, List, ap, ◌∙◌, arith}
 use Rattle.ns_base.specs.declared.selector.Sel.{Sel}
 use Rattle.ns_code.specs.declared.program.CodeProgram.{CodeProgram}
 use Rattle.ns_world.specs.declared.value.Value.{Value}
-use Rattle.ns_actions.specs.declared.site.Site.{Site}
-use Rattle.ns_machine_moves.specs.State.{Sending, Performing, Evaluating, Pends}
+use Rattle.ns_moves.specs.declared.site.Site.{Site}
+use Rattle.ns_moves.specs.State.{Sending, Performing, Evaluating, Pends}
 use Rattle.ns_frozen.specs.declared.pending.Pending.TheVariants as waiting
 use Rattle.ns_machine_frames.specs.declared.frame.KeptSite.{KeptSite}
 use Rattle.ns_machine_frames.specs.declared.frame.Pending.TheVariants as kept

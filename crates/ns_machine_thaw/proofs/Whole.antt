@@ -12,16 +12,16 @@ use Rattle.ns_world.specs.declared.ending.LimitKind.TheVariants.{Cells, Steps, D
 use Rattle.ns_world.specs.Heap.{Heap, heap_size}
 use Rattle.ns_world.specs.Lawful.{IsLawful}
 use Rattle.ns_world.specs.World.{World, WorldView, SameRoom}
-use Rattle.ns_actions.specs.declared.run.Run.{Run}
-use Rattle.ns_actions.specs.Run as act
-use Rattle.ns_actions.specs.Bodies.{greatest_of}
-use Rattle.ns_actions.specs.Blocks.{is_block}
-use Rattle.ns_actions.specs.Control.{Progress}
-use Rattle.ns_actions.specs.Start.{standing_cells}
-use Rattle.ns_machine_moves.specs.State as run
-use Rattle.ns_machine_moves.specs.State.{Start, First, Second, Hosted, State, Ended, progress_of}
-use Rattle.ns_machine_moves.specs.Valid.{BeginsWith, EndIsValid, Valid}
-use Rattle.ns_machine_moves.specs.laws.Worlds.{valid_lawful}
+use Rattle.ns_moves.specs.declared.run.Run.{Run}
+use Rattle.ns_moves.specs.Run as act
+use Rattle.ns_moves.specs.Bodies.{greatest_of}
+use Rattle.ns_moves.specs.Blocks.{is_block}
+use Rattle.ns_moves.specs.Control.{Progress}
+use Rattle.ns_moves.specs.Start.{standing_cells}
+use Rattle.ns_moves.specs.State as run
+use Rattle.ns_moves.specs.State.{Start, First, Second, Hosted, State, Ended, progress_of}
+use Rattle.ns_moves.specs.Valid.{BeginsWith, EndIsValid, Valid}
+use Rattle.ns_moves.specs.laws.Worlds.{valid_lawful}
 use Rattle.ns_frozen.specs.declared.frame.FrozenFrame.{FrozenFrame}
 use Rattle.ns_frozen.specs.declared.frozen.Frozen.{Frozen}
 use Rattle.ns_frozen.specs.declared.pending.Pending.{Pending}

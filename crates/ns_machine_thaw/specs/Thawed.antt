@@ -3,10 +3,10 @@ use Rattle.std.specs.Prelude.{◌≡◌, ℕ, ◌<◌, ◌≤◌, List, length, 
 use Rattle.ns_base.specs.declared.place.Place.{Place as SourcePlace}
 use Rattle.ns_code.specs.declared.program.CodeProgram.{CodeProgram}
 use Rattle.ns_find.specs.Memo.{IsEmpty}
-use Rattle.ns_actions.specs.declared.run.Run.{Run}
-use Rattle.ns_actions.specs.Room.{SameRest}
-use Rattle.ns_actions.specs.Run.{progress_of}
-use Rattle.ns_machine_moves.specs.State.{State, Unbegun}
+use Rattle.ns_moves.specs.declared.run.Run.{Run}
+use Rattle.ns_moves.specs.Room.{SameRest}
+use Rattle.ns_moves.specs.Run.{progress_of}
+use Rattle.ns_moves.specs.State.{State, Unbegun}
 use Rattle.ns_frozen.specs.declared.frozen.Frozen.{Frozen}
 use Rattle.ns_frozen.specs.declared.pending.Pending.{Pending}
 use Rattle.ns_frozen.specs.Thawing.{thawed, state_at, progress_thawed, arguments_in, heap_thawed}

@@ -2,8 +2,8 @@
 use Rattle.std.specs.Prelude.{◌≡◌, List, []}
 use Rattle.ns_code.specs.declared.program.CodeProgram.{CodeProgram}
 use Rattle.ns_world.specs.declared.value.Value.{Value}
-use Rattle.ns_actions.specs.declared.site.Site.{Site}
-use Rattle.ns_machine_moves.specs.State.{Pends}
+use Rattle.ns_moves.specs.declared.site.Site.{Site}
+use Rattle.ns_moves.specs.State.{Pends}
 use Rattle.ns_frozen.specs.declared.pending.Pending.{Pending}
 use Rattle.ns_frozen.specs.declared.pending.Pending.TheVariants.{Send, Perform, Evaluate}
 use Rattle.ns_frozen.specs.Thawing.{pending_thawed}

@@ -1,9 +1,9 @@
 //! The array of the arguments, which follows the cells with which each run starts and the texts of the arguments.
 
 ghost use Rattle.std.specs.Prelude.{◌≡◌, ◌+◌, ◌*◌, ◌≤◌, length, unwrap_or};
-ghost use Rattle.ns_actions.specs.Start.{facet_if, facets_of, tops_of, standing_cells, size_of_cells};
+ghost use Rattle.ns_moves.specs.Start.{facet_if, facets_of, tops_of, standing_cells, size_of_cells};
 ghost use Rattle.ns_frozen.specs.Thawing.{heap_thawed, arguments_in};
-ghost use Rattle.ns_machine_moves.specs.Valid.{BeginsWith};
+ghost use Rattle.ns_moves.specs.Valid.{BeginsWith};
 ghost use Rattle.ns_world.specs.Heap.{heap_size};
 ghost use Rattle.ns_world.specs.declared.cell.FacetKind.{FacetKind};
 ghost use Rattle.ns_machine_thaw.specs.Arguments.{data_behind, texts_size};

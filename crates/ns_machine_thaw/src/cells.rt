@@ -1,7 +1,7 @@
 //! The cells that plain data stands for, made one behind the other.
 
 ghost use Rattle.std.specs.Prelude.{◌≡◌, ◌+◌, ◌<◌, ◌≤◌, ◌∷◌, length, IsTrue};
-ghost use Rattle.ns_actions.specs.Room.{HasCellRoom};
+ghost use Rattle.ns_moves.specs.Room.{HasCellRoom};
 ghost use Rattle.ns_frozen.specs.declared.cell.CellData.TheVariants.{Class as ClassData};
 ghost use Rattle.ns_frozen.specs.Thawing.{cell_thawed, cells_onto};
 ghost use Rattle.ns_world.specs.Cell.{ObjectCell, EnvironmentCell, ArrayCell, TextCell, cell_size, fresh};

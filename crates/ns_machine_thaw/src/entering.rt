@@ -1,7 +1,7 @@
 //! One frame, put on the others with its values.
 
 ghost use Rattle.std.specs.Prelude.{◌≡◌, ◌+◌, ◌≤◌, ◌<◌, length, reverse};
-ghost use Rattle.ns_actions.specs.Bodies.{height_in};
+ghost use Rattle.ns_moves.specs.Bodies.{height_in};
 ghost use Rattle.ns_machine_frames.specs.Standing.{Runs, Loops};
 ghost use Rattle.ns_machine_frames.specs.Stack.{IsLaid, IsEntered};
 ghost use Rattle.ns_machine_thaw.specs.Frames.{HasFrameRoom, KeepsBody, StandLow, FrameIsPut, at_start};

@@ -2,7 +2,7 @@
 
 ghost use Rattle.std.specs.Prelude.{◌≡◌, ◌+◌, ◌≤◌, ◌||◌, length, nat_lt};
 ghost use Rattle.ns_frozen.specs.Thawing as thawing;
-ghost use Rattle.ns_machine_moves.specs.ValidFrames.{is_super_part};
+ghost use Rattle.ns_moves.specs.ValidFrames.{is_super_part};
 ghost use Rattle.ns_machine_plan.specs.Plan.{IsPlanOf, HasStep};
 ghost use Rattle.ns_machine_plan.specs.Steps.{instr_of};
 ghost use Rattle.ns_machine_thaw.specs.Frames.{KindFits, FramesFit, HasFrameRoom, HasDepthRoom, KeepsFrame, StandLow, FrameIsPut, FramesArePut, stood_of};

@@ -1,7 +1,7 @@
 //! Frames as the machine keeps them.
 
 ghost use Rattle.std.specs.Prelude.{◌≡◌, ◌+◌, ◌≤◌, length, List};
-ghost use Rattle.ns_actions.specs.Bodies.{greatest_of};
+ghost use Rattle.ns_moves.specs.Bodies.{greatest_of};
 ghost use Rattle.ns_base.specs.declared.place.Place.{Place as SourcePlace};
 ghost use Rattle.ns_frozen.specs.Thawing as thawing;
 ghost use Rattle.ns_frozen.specs.Thawing.{frame_thawed};

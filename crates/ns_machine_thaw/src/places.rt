@@ -6,11 +6,11 @@ ghost use Rattle.ns_machine_frames.specs.View.{site_shown};
 ghost use Rattle.ns_machine_plan.specs.Steps.{no_place};
 ghost use Rattle.ns_machine_thaw.specs.Frames.{site_number, SiteIsPlaced, SiteIsWritten, SitesAreWritten};
 
-use ns_actions::site::Site;
 use ns_frozen::frame::FrozenFrame;
 use ns_machine_core::places::Places;
 use ns_machine_frames::frame::KeptSite;
 use ns_machine_plan::step::NO_PLACE;
+use ns_moves::site::Site;
 
 /// Writes the places of the sites of frames, from a number on.
 pub fn put_sites(places: &mut Places, first: u32, frames: &[FrozenFrame])

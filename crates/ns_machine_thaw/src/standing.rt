@@ -1,13 +1,13 @@
 //! What a run stands at that hasn't ended: its frames and what is pending.
 
 ghost use Rattle.std.specs.Prelude.{◌≡◌, ◌+◌, ◌<◌, ◌≤◌, length};
-ghost use Rattle.ns_actions.specs.Start.{standing_cells};
+ghost use Rattle.ns_moves.specs.Start.{standing_cells};
 ghost use Rattle.ns_frozen.specs.Thawing as thawing;
 ghost use Rattle.ns_frozen.specs.Thawing.{going_thawed, heap_thawed, phase_thawed};
 ghost use Rattle.ns_machine_core.specs.Shown.{phase_shown, progress_in};
 ghost use Rattle.ns_machine_frames.specs.Stack.{stood};
 ghost use Rattle.ns_machine_frames.specs.View.{frames_shown};
-ghost use Rattle.ns_machine_moves.specs.Valid.{BeginsWith};
+ghost use Rattle.ns_moves.specs.Valid.{BeginsWith};
 ghost use Rattle.ns_machine_plan.specs.Plan.{IsPlanOf};
 ghost use Rattle.ns_machine_plan.specs.Steps.{no_place};
 ghost use Rattle.ns_world.specs.Heap.{heap_size};

@@ -1,15 +1,15 @@
 //! A whole state, put back.
 
 ghost use Rattle.std.specs.Prelude.{◌≡◌, ◌+◌, ◌<◌, ◌≤◌, length};
-ghost use Rattle.ns_actions.specs.Room.{HasCellRoom};
-ghost use Rattle.ns_actions.specs.Start.{standing_cells};
+ghost use Rattle.ns_moves.specs.Room.{HasCellRoom};
+ghost use Rattle.ns_moves.specs.Start.{standing_cells};
 ghost use Rattle.ns_frozen.specs.Fault.{IsValid};
 ghost use Rattle.ns_frozen.specs.Laws.{CanStand};
 ghost use Rattle.ns_frozen.specs.Thawing as thawing;
 ghost use Rattle.ns_frozen.specs.Thawing.{heap_thawed, phase_thawed, world_thawed};
 ghost use Rattle.ns_machine_core.specs.Shown.{phase_shown};
 ghost use Rattle.ns_machine_core.specs.Standing.{HasRooms};
-ghost use Rattle.ns_machine_moves.specs.Valid.{BeginsWith};
+ghost use Rattle.ns_moves.specs.Valid.{BeginsWith};
 ghost use Rattle.ns_machine_plan.specs.Plan.{IsPlanOf};
 ghost use Rattle.ns_machine_plan.specs.Steps.{no_place};
 ghost use Rattle.ns_world.specs.Heap.{heap_size};
@@ -20,12 +20,12 @@ use crate::arguments::arguments_in;
 use crate::standing::put_standing;
 use crate::thawed::Thawed;
 use crate::world::put_world;
-use ns_actions::run::Run;
 use ns_code::program::CodeProgram;
 use ns_frozen::frozen::Frozen;
 use ns_frozen::laws::valid_states_thaw;
 use ns_machine_core::state::{Core, Next, Phase};
 use ns_machine_plan::plan::Plan;
+use ns_moves::run::Run;
 use ns_verify::laws::heights_agree;
 
 /// Puts a valid state back in place of what a machine of the same limits has done. The places of its sites have numbers

@@ -7,11 +7,11 @@ ghost use Rattle.ns_machine_thaw.specs.Waiting as spec;
 ghost use Rattle.ns_machine_thaw.specs.Waiting.{arguments_of, PendingWaits, WaitsAlone};
 
 use crate::places::kept_site;
-use ns_actions::site::Site;
 use ns_frozen::pending::Pending;
 use ns_machine_core::state::{Core, Next};
 use ns_machine_frames::frame::Pending as KeptPending;
 use ns_machine_frames::registers::Registers;
+use ns_moves::site::Site;
 
 /// Lets it wait above the frames that stand. The place of its site has a number, and its arguments are kept apart.
 #[tactic(auto, using(crate::proofs::Waited::send_waits, crate::proofs::Waited::perform_waits, crate::proofs::Waited::block_waits))]

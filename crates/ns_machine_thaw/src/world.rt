@@ -1,7 +1,7 @@
 //! The world of a run, put back.
 
 ghost use Rattle.std.specs.Prelude.{◌≡◌, ◌+◌, ◌++◌, ◌≤◌, length};
-ghost use Rattle.ns_actions.specs.Room.{HasCellRoom};
+ghost use Rattle.ns_moves.specs.Room.{HasCellRoom};
 ghost use Rattle.ns_frozen.specs.Thawing.{world_thawed};
 ghost use Rattle.ns_world.specs.Lawful.{IsLawful};
 ghost use Rattle.ns_world.specs.World.{SameRoom};

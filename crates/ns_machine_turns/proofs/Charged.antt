@@ -5,13 +5,13 @@ use Rattle.ns_code.specs.declared.program.CodeProgram.{CodeProgram}
 use Rattle.ns_code.specs.Table.{target}
 use Rattle.ns_world.specs.declared.value.Value.{Value}
 use Rattle.ns_find.specs.declared.found.Sending.TheVariants.{Plain, Inner}
-use Rattle.ns_machine_moves.specs.State as state
-use Rattle.ns_machine_moves.specs.State.{Going}
-use Rattle.ns_machine_moves.specs.Steps as moves
-use Rattle.ns_machine_moves.specs.Steps.{steps_of, steps_from}
-use Rattle.ns_machine_moves.specs.Jumps.{goes_back, takes_jump}
-use Rattle.ns_machine_moves.specs.Stated.{GoesBackTo}
-use Rattle.ns_machine_moves.specs.Charging.{jump_charges, instr_charges, will_charge}
+use Rattle.ns_moves.specs.State as state
+use Rattle.ns_moves.specs.State.{Going}
+use Rattle.ns_moves.specs.Steps as moves
+use Rattle.ns_moves.specs.Steps.{steps_of, steps_from}
+use Rattle.ns_moves.specs.Jumps.{goes_back, takes_jump}
+use Rattle.ns_moves.specs.StatedMoves.{GoesBackTo}
+use Rattle.ns_moves.specs.Charging.{jump_charges, instr_charges, will_charge}
 use Rattle.ns_machine_frames.specs.declared.frame.Frame.TheVariants.{Running}
 use Rattle.ns_machine_frames.specs.declared.frame.RunningFrame.{RunningFrame}
 use Rattle.ns_machine_frames.specs.declared.registers.Registers.{Registers}

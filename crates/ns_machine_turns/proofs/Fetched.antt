@@ -10,11 +10,11 @@ use Rattle.ns_code.specs.declared.instruction.Instr.TheVariants.{ReturnSelf}
 use Rattle.ns_code.specs.Fits.{BodyFits, Fits as FitsFields}
 use Rattle.ns_world.specs.declared.value.Value.{Value}
 use Rattle.ns_facets.specs.declared.row.Grants.{Grants}
-use Rattle.ns_machine_moves.specs.State.{Going}
-use Rattle.ns_machine_moves.specs.Steps as moves
-use Rattle.ns_machine_moves.specs.Steps.{placed, steps_of, steps_from}
-use Rattle.ns_machine_moves.specs.laws.Steps.{placed_length}
-use Rattle.ns_machine_moves.specs.Valid.{Valid}
+use Rattle.ns_moves.specs.State.{Going}
+use Rattle.ns_moves.specs.Steps as moves
+use Rattle.ns_moves.specs.Steps.{placed, steps_of, steps_from}
+use Rattle.ns_moves.specs.laws.Steps.{placed_length}
+use Rattle.ns_moves.specs.Valid.{Valid}
 use Rattle.ns_machine_frames.specs.declared.frame.Frame.{Frame}
 use Rattle.ns_machine_frames.specs.declared.frame.Frame.TheVariants.{Running, Looping}
 use Rattle.ns_machine_frames.specs.declared.frame.RunningFrame.{RunningFrame}

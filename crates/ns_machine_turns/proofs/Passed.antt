@@ -2,12 +2,12 @@
 use Rattle.std.proofs.Common.{◌≡◌, ℕ, ◌-◌, ◌<◌, ◌≤◌, ap, sym, subst, arith, false}
 use Rattle.ns_code.specs.declared.program.CodeProgram.{CodeProgram}
 use Rattle.ns_facets.specs.declared.row.Grants.{Grants}
-use Rattle.ns_machine_moves.specs.Falling.{run_left, MovesLower}
-use Rattle.ns_machine_moves.specs.Charging.{will_charge}
-use Rattle.ns_machine_moves.specs.Move.{move}
-use Rattle.ns_machine_moves.specs.State.{State, world_of}
-use Rattle.ns_machine_moves.specs.Turn.{is_still}
-use Rattle.ns_machine_moves.specs.Valid.{Valid}
+use Rattle.ns_moves.specs.Falling.{run_left, MovesLower}
+use Rattle.ns_moves.specs.Charging.{will_charge}
+use Rattle.ns_moves.specs.Move.{move}
+use Rattle.ns_moves.specs.State.{State, world_of}
+use Rattle.ns_moves.specs.Turn.{is_still}
+use Rattle.ns_moves.specs.Valid.{Valid}
 use Rattle.ns_machine_plan.specs.declared.plan.Plan.{Plan}
 use Rattle.ns_machine_core.specs.declared.own.OwnSends.{OwnSends}
 use Rattle.ns_machine_core.specs.declared.state.Core.{Core}

@@ -12,15 +12,15 @@ use Rattle.ns_world.specs.Heap.{Heap, find_cell}
 use Rattle.ns_world.specs.Lawful.{IsLiveValue}
 use Rattle.ns_base.specs.declared.selector.Sel.{Sel}
 use Rattle.ns_kdata.specs.Arguments.{CellIsThere, items_of, is_array, is_array_shape}
-use Rattle.ns_actions.specs.Control.{Control, gives}
-use Rattle.ns_actions.specs.Lawful.{LawfulControl, FitsSelector}
-use Rattle.ns_actions.specs.Sends.{sent_from}
-use Rattle.ns_actions.specs.Stated.{WaitedIsLawful}
-use Rattle.ns_machine_moves.specs.State as state
-use Rattle.ns_machine_moves.specs.Arrivals.{arrived}
-use Rattle.ns_machine_moves.specs.Move.{move}
-use Rattle.ns_machine_moves.specs.Returns.{delivered}
-use Rattle.ns_machine_moves.specs.Valid.{Valid}
+use Rattle.ns_moves.specs.Control.{Control, gives}
+use Rattle.ns_moves.specs.Lawful.{LawfulControl, FitsSelector}
+use Rattle.ns_moves.specs.Sends.{sent_from}
+use Rattle.ns_moves.specs.Stated.{WaitedIsLawful}
+use Rattle.ns_moves.specs.State as state
+use Rattle.ns_moves.specs.Arrivals.{arrived}
+use Rattle.ns_moves.specs.Move.{move}
+use Rattle.ns_moves.specs.Returns.{delivered}
+use Rattle.ns_moves.specs.Valid.{Valid}
 use Rattle.ns_machine_frames.specs.declared.frame.Pending.{Pending}
 use Rattle.ns_machine_frames.specs.declared.frame.Pending.TheVariants as pending
 use Rattle.ns_machine_frames.specs.declared.registers.Registers.{Registers}
@@ -29,7 +29,7 @@ use Rattle.ns_machine_frames.specs.Standing.{at_next}
 use Rattle.ns_machine_frames.specs.Stack.{stood, with_top}
 use Rattle.ns_machine_frames.specs.View.{site_shown, frames_shown, state_shown}
 use Rattle.ns_find.specs.Memo.{PlaceIsRight}
-use Rattle.ns_actions.specs.declared.run.Run.{Run}
+use Rattle.ns_moves.specs.declared.run.Run.{Run}
 use Rattle.ns_machine_core.specs.declared.state.Core.{Core}
 use Rattle.ns_machine_core.specs.declared.state.Next.{Next}
 use Rattle.ns_machine_core.specs.declared.state.Next.TheVariants as next
@@ -39,7 +39,7 @@ use Rattle.ns_machine_core.specs.Own.{AreOwn}
 use Rattle.ns_machine_core.specs.Ready.{MachineIsReady, MakesMove}
 use Rattle.ns_machine_core.specs.Framed.{HasRoomOnTop, WaitingHasRoom, ArgumentsAreFew}
 use Rattle.ns_machine_core.specs.Standing.{AreStanding, ArgumentsWait, Wait}
-use Rattle.ns_actions.specs.Bodies.{greatest_of}
+use Rattle.ns_moves.specs.Bodies.{greatest_of}
 use Rattle.ns_machine_core.specs.laws.Kept.{rooms_stay}
 use Rattle.ns_machine_returns.specs.Handing.{CanTake, IsHanded}
 use Rattle.ns_machine_sends.specs.declared.sent.Sent.{Sent}

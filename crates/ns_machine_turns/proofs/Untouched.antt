@@ -2,7 +2,7 @@
 use Rattle.std.proofs.Common.{◌≡◌, ℕ, ◌-◌, ◌<◌, List, Option, All, ap, sym, subst, arith, false}
 use Rattle.ns_code.specs.declared.program.CodeProgram.{CodeProgram}
 use Rattle.ns_facets.specs.declared.row.Grants.{Grants}
-use Rattle.ns_machine_moves.specs.Falling.{run_left}
+use Rattle.ns_moves.specs.Falling.{run_left}
 use Rattle.ns_find.specs.declared.memo.Kept.{Kept}
 use Rattle.ns_find.specs.Memo.{PlaceIsRight}
 use Rattle.ns_machine_frames.specs.declared.registers.Registers.{Registers}
@@ -14,7 +14,7 @@ use Rattle.ns_machine_core.specs.declared.state.Next.TheVariants.{On}
 use Rattle.ns_machine_core.specs.Ready.{MachineIsReady}
 use Rattle.ns_machine_core.specs.Shown.{shown}
 use Rattle.ns_machine_core.specs.Tried.{OnlyLookupsChanged}
-use Rattle.ns_machine_moves.specs.Turn.{is_still}
+use Rattle.ns_moves.specs.Turn.{is_still}
 use Rattle.ns_machine_turns.specs.Turning.{RunsBy, IsTurning, GoesAlong, HasGone}
 use Rattle.ns_machine_turns.proofs.Along.{gone_far}
 

@@ -1,7 +1,7 @@
 -- Whether a step of a plan charges, by its number and the operands before it.
 use Rattle.std.specs.Prelude.{ℕ, List, [], ◌∷◌, nat_le, Bool, true, false, ◌&&◌}
 use Rattle.ns_world.specs.declared.value.Value.{Value}
-use Rattle.ns_machine_moves.specs.Jumps.{takes_jump}
+use Rattle.ns_moves.specs.Jumps.{takes_jump}
 use Rattle.ns_machine_plan.specs.declared.step.Step.{Step}
 use Rattle.ns_machine_plan.specs.declared.step.Step.TheVariants.{Send, SendPrivate, SendSuper, Jump, JumpFalse, JumpTrue}
 

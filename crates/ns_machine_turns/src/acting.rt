@@ -11,7 +11,6 @@ ghost use Rattle.ns_machine_turns.specs.Looping.{BlockStands, LoopsBy};
 ghost use Rattle.ns_machine_turns.specs.Turning.{RunsBy, HasGone};
 
 use crate::laws::moves_go_along;
-use ns_actions::methods::Waited;
 use ns_code::program::CodeProgram;
 use ns_machine_core::own::OwnSends;
 use ns_machine_core::state::{Core, Next};
@@ -24,6 +23,7 @@ use ns_machine_returns::laws::topmost_methods_can_act;
 use ns_machine_sends::blocks::enter_at_once;
 use ns_machine_sends::sent::Sent;
 use ns_machine_sends::waiting::evaluate_at_once;
+use ns_moves::methods::Waited;
 use ns_world::kernel_parts::KMethod;
 use ns_world::value::Value;
 

@@ -6,9 +6,9 @@ ghost use Rattle.ns_machine_turns.specs.Turning.{MovesGoAlong, PassingGoesAlong}
 use ns_machine_core::laws::{
     moves_keep_machines_ready, passing_keeps_machines_ready, turns_go_by_moves,
 };
-use ns_machine_moves::falling::moves_lower;
-use ns_machine_moves::laws::{moves_charge_as_told, moves_go_onward};
-use ns_machine_moves::valid_frames::moves_keep_valid;
+use ns_moves::falling::moves_lower;
+use ns_moves::move_laws::{moves_charge_as_told, moves_go_onward};
+use ns_moves::valid_frames::moves_keep_valid;
 
 /// Moves of a machine go along, one after another, as long as steps are left, and none takes a step back.
 pub fn moves_go_along()

@@ -1,5 +1,5 @@
 //! Turns of the machine: as many moves as so many steps allow, in one loop.
-//! `crates/ns_machine_moves/specs/Turn.antt` says what state a turn leaves (`Turns`).
+//! `crates/ns_moves/specs/Turn.antt` says what state a turn leaves (`Turns`).
 //! Stands between ns_machine_returns, ns_machine_quick and ns_machine.
 #![tactic(auto)]
 

@@ -1,7 +1,7 @@
 //! One move of a run.
 
 ghost use Rattle.std.specs.Prelude.{◌≡◌, false};
-ghost use Rattle.ns_machine_moves.specs.Turn.{is_still};
+ghost use Rattle.ns_moves.specs.Turn.{is_still};
 ghost use Rattle.ns_machine_core.specs.declared.state.Next.TheVariants as next;
 ghost use Rattle.ns_machine_core.specs.Ready.{MakesMove};
 ghost use Rattle.ns_machine_core.specs.Shown.{shown};

@@ -12,7 +12,6 @@ ghost use Rattle.ns_machine_sends.specs.Sending.{Sends};
 ghost use Rattle.ns_machine_sends.specs.Waiting.{CanSendOn, sent_on_at};
 ghost use Rattle.ns_machine_turns.specs.Prepared.{IsPreparedToRun};
 
-use ns_actions::laws::sends_that_waited_go_on;
 use ns_base::selector::Sel;
 use ns_code::program::CodeProgram;
 use ns_machine_core::laws::{arguments_are_few, valid_frames_are_framed};
@@ -25,6 +24,7 @@ use ns_machine_sends::placing::keep_items;
 use ns_machine_sends::resending::send_on;
 use ns_machine_sends::sent::Sent;
 use ns_machine_sends::waiting::make_place;
+use ns_moves::laws::sends_that_waited_go_on;
 use ns_world::value::Value;
 
 /// Makes a send that waits with the arguments that are kept.

@@ -3,7 +3,7 @@
 ghost use Rattle.std.specs.Prelude.{◌≡◌, ◌≤◌, false};
 ghost use Rattle.ns_code.specs.declared.program.CodeProgram.{CodeProgram};
 ghost use Rattle.ns_facets.specs.declared.row.Grants.{Grants};
-ghost use Rattle.ns_machine_moves.specs.Turn.{is_still, Turns};
+ghost use Rattle.ns_moves.specs.Turn.{is_still, Turns};
 ghost use Rattle.ns_machine_core.specs.declared.state.Core.{Core as AnyCore};
 ghost use Rattle.ns_machine_core.specs.Doing.{IsRunning};
 ghost use Rattle.ns_machine_core.specs.Shown.{shown};
@@ -27,11 +27,11 @@ use ns_machine_core::own::OwnSends;
 use ns_machine_core::state::{Core, Next};
 use ns_machine_frames::frame::Frame;
 use ns_machine_frames::registers::Registers;
-use ns_machine_moves::falling::moves_lower;
-use ns_machine_moves::laws::{moves_charge_as_told, moves_go_onward};
-use ns_machine_moves::valid_frames::moves_keep_valid;
 use ns_machine_plan::laws::running_bodies_have_steps;
 use ns_machine_plan::plan::Plan;
+use ns_moves::falling::moves_lower;
+use ns_moves::move_laws::{moves_charge_as_told, moves_go_onward};
+use ns_moves::valid_frames::moves_keep_valid;
 
 /// A turn of so many steps: moves up to the end of the run, or up to the first that would charge a step more.
 ///

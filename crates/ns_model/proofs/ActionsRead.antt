@@ -34,20 +34,20 @@ use Rattle.ns_find.specs.declared.found.Sending.TheVariants.{Plain, Inner}
 use Rattle.ns_find.specs.Find.{side_of, found_from, found_private, super_start}
 use Rattle.ns_kdata.specs.Arguments.{shape_of_value, items_of}
 use Rattle.ns_mirror.specs.Naming.{class_text}
-use Rattle.ns_actions.specs.declared.site.Site.{Site}
-use Rattle.ns_actions.specs.Site.{error}
-use Rattle.ns_actions.specs.Control.{Progress, in_world, Activation, Exit, FromMethod, FromBody, FromClause, After, Gives, Halts}
-use Rattle.ns_actions.specs.Control.{Control, Now, Enter, Stop, EnterPart, halts, fails, charged}
-use Rattle.ns_actions.specs.Bodies.{parameters_of, locals_of, has_environment, side_of_body, initialiser_of, clause_of, no_home, first_locals, opened}
-use Rattle.ns_actions.specs.Bodies.{enclosing, side_at, environment_out, is_beside, environment_at, local_at, locals_with, local_stored}
-use Rattle.ns_actions.specs.Classes.{class_made, keeping, newly_kept, kept_or, class_over, head, nested, instance, factory_selector, super_selector}
-use Rattle.ns_actions.specs.Classes.{declared_part, part_of, super_part, slot_filled, body_ended}
-use Rattle.ns_actions.specs.Blocks.{block_entered}
+use Rattle.ns_moves.specs.declared.site.Site.{Site}
+use Rattle.ns_moves.specs.Site.{error}
+use Rattle.ns_moves.specs.Control.{Progress, in_world, Activation, Exit, FromMethod, FromBody, FromClause, After, Gives, Halts}
+use Rattle.ns_moves.specs.Control.{Control, Now, Enter, Stop, EnterPart, halts, fails, charged}
+use Rattle.ns_moves.specs.Bodies.{parameters_of, locals_of, has_environment, side_of_body, initialiser_of, clause_of, no_home, first_locals, opened}
+use Rattle.ns_moves.specs.Bodies.{enclosing, side_at, environment_out, is_beside, environment_at, local_at, locals_with, local_stored}
+use Rattle.ns_moves.specs.Classes.{class_made, keeping, newly_kept, kept_or, class_over, head, nested, instance, factory_selector, super_selector}
+use Rattle.ns_moves.specs.Classes.{declared_part, part_of, super_part, slot_filled, body_ended}
+use Rattle.ns_moves.specs.Blocks.{block_entered}
 use Rattle.ns_world.specs.KernelTable.{row_at}
-use Rattle.ns_actions.specs.Sends.{Target, To, ToPrivate, ToSuper, receiver_of, found_at, site_at, Arguments, Listed, Wrapped, given, one_more}
-use Rattle.ns_actions.specs.Sends.{method_entered, factory_entered, nested_in, done_with, message_sel, not_found, answered_by, sent, sent_from}
-use Rattle.ns_actions.specs.Sends.{sent_plain}
-use Rattle.ns_actions.specs.Report.{cell_text, value_text, place_text, kind_text, report_line}
+use Rattle.ns_moves.specs.Sends.{Target, To, ToPrivate, ToSuper, receiver_of, found_at, site_at, Arguments, Listed, Wrapped, given, one_more}
+use Rattle.ns_moves.specs.Sends.{method_entered, factory_entered, nested_in, done_with, message_sel, not_found, answered_by, sent, sent_from}
+use Rattle.ns_moves.specs.Sends.{sent_plain}
+use Rattle.ns_moves.specs.Report.{cell_text, value_text, place_text, kind_text, report_line}
 use Rattle.ns_model.specs.Tables.{SameTables, ActAlike}
 use Rattle.ns_code.specs.Heads.{head_of}
 use Rattle.ns_model.proofs.Lookups.{recoded, above_same, layout_same, word_same, kept_same, found_same, private_same}

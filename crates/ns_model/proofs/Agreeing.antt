@@ -5,12 +5,12 @@ use Rattle.ns_code.specs.declared.program.CodeProgram.{CodeProgram}
 use Rattle.ns_world.specs.declared.value.Value.{Value}
 use Rattle.ns_world.specs.declared.value.Value.TheVariants.{Sym}
 use Rattle.ns_world.specs.declared.kernel_parts.KMethod.{KMethod}
-use Rattle.ns_actions.specs.declared.site.Site.{Site}
-use Rattle.ns_actions.specs.Control.{Progress, Activation, Exit, Control, Now, Enter, Evaluate, Begin, Perform, frame_left}
-use Rattle.ns_actions.specs.Control.{PartControl, Skip, Stop, EnterPart, Waiting, Waits, Finishes}
-use Rattle.ns_actions.specs.Classes.{super_part, slot_filled, body_ended}
-use Rattle.ns_actions.specs.Blocks.{evaluated, method_next, taken, new_block, new_text, new_array}
-use Rattle.ns_actions.specs.Sends.{Target, ToSuper, to_value, sent, performed}
+use Rattle.ns_moves.specs.declared.site.Site.{Site}
+use Rattle.ns_moves.specs.Control.{Progress, Activation, Exit, Control, Now, Enter, Evaluate, Begin, Perform, frame_left}
+use Rattle.ns_moves.specs.Control.{PartControl, Skip, Stop, EnterPart, Waiting, Waits, Finishes}
+use Rattle.ns_moves.specs.Classes.{super_part, slot_filled, body_ended}
+use Rattle.ns_moves.specs.Blocks.{evaluated, method_next, taken, new_block, new_text, new_array}
+use Rattle.ns_moves.specs.Sends.{Target, ToSuper, to_value, sent, performed}
 use Rattle.ns_resolved.specs.Program as m
 use Rattle.ns_resolved.specs.Tables.{sel_of}
 use Rattle.ns_model.specs.Outcome.{Completion, Yields, Returns, Ends, Spent, bind, settled, back, passed, is_home, homes_in, is_live}

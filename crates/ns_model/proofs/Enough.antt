@@ -19,13 +19,13 @@ use Rattle.ns_world.specs.World.{World, made}
 use Rattle.ns_facets.specs.declared.row.Grants.{Grants}
 use Rattle.ns_world.specs.declared.kernel_parts.KMethod.{KMethod}
 use Rattle.ns_kcode.specs.Rows.{beginning}
-use Rattle.ns_actions.specs.declared.site.Site.{Site}
-use Rattle.ns_actions.specs.Control.{Progress, in_world, After, Gives, Halts}
-use Rattle.ns_actions.specs.Blocks.{method_next, turns_of}
-use Rattle.ns_actions.specs.Sends.{sent_plain, own_sel}
-use Rattle.ns_actions.specs.Start.{facet_if, facets_of, top_if, tops_of, standing_cells, start_cells, nothing_done}
-use Rattle.ns_actions.specs.Start.{all_made, start_made, manifest, platform, first_class}
-use Rattle.ns_actions.specs.laws.Onward.{charged_all}
+use Rattle.ns_moves.specs.declared.site.Site.{Site}
+use Rattle.ns_moves.specs.Control.{Progress, in_world, After, Gives, Halts}
+use Rattle.ns_moves.specs.Blocks.{method_next, turns_of}
+use Rattle.ns_moves.specs.Sends.{sent_plain, own_sel}
+use Rattle.ns_moves.specs.Start.{facet_if, facets_of, top_if, tops_of, standing_cells, start_cells, nothing_done}
+use Rattle.ns_moves.specs.Start.{all_made, start_made, manifest, platform, first_class}
+use Rattle.ns_moves.specs.laws.Onward.{charged_all}
 use Rattle.ns_resolved.specs.Program.{Meant}
 use Rattle.ns_model.specs.Outcome.{Completion, Yields, Returns, Ends, Spent}
 use Rattle.ns_model.specs.Run.{run, fuel_of}

@@ -18,22 +18,22 @@ use Rattle.ns_world.specs.Layout.{declaration_of}
 use Rattle.ns_world.specs.Later.{IsLater}
 use Rattle.ns_world.specs.laws.Chains.{class_below}
 use Rattle.ns_kdata.specs.Arguments.{shape_of_value}
-use Rattle.ns_actions.specs.declared.site.Site.{Site}
-use Rattle.ns_actions.specs.Site.{error}
-use Rattle.ns_actions.specs.Control.{Progress, in_world, Activation, FromMethod, FromBody, FromClause, After, Gives, Halts, Control, Now, Enter}
-use Rattle.ns_actions.specs.Control.{Evaluate, Begin, Perform}
-use Rattle.ns_actions.specs.Control.{PartControl, Skip, Stop, EnterPart, Waiting, Waits, Finishes, charged, halts, fails}
-use Rattle.ns_actions.specs.Bodies.{parameters_of, has_environment, first_locals, initialiser_of, no_home, opened}
-use Rattle.ns_actions.specs.Classes.{super_selector, factory_selector, object_part, part_of, super_part, body_ended}
-use Rattle.ns_actions.specs.Blocks.{block_entered, evaluated, method_next, new_block, new_text, new_array}
-use Rattle.ns_actions.specs.Sends.{sent, sent_plain, performed}
-use Rattle.ns_actions.specs.Onward.{after_reached, reached, part_reached, waiting_reached}
-use Rattle.ns_actions.specs.Actions.{Sends, SendsPlain, Performs, Evaluates, Continues, BeginsPart, EndsBody, MakesBlock, MakesText, MakesArray}
-use Rattle.ns_actions.specs.Actions.{FillsSlot, StoresLocal}
-use Rattle.ns_actions.specs.Spending.{ControlSpends}
-use Rattle.ns_actions.specs.laws.Onward.{charged_all}
-use Rattle.ns_actions.specs.laws.LeadingOn.{action_leads}
-use Rattle.ns_actions.specs.laws.Spending.{action_spends}
+use Rattle.ns_moves.specs.declared.site.Site.{Site}
+use Rattle.ns_moves.specs.Site.{error}
+use Rattle.ns_moves.specs.Control.{Progress, in_world, Activation, FromMethod, FromBody, FromClause, After, Gives, Halts, Control, Now, Enter}
+use Rattle.ns_moves.specs.Control.{Evaluate, Begin, Perform}
+use Rattle.ns_moves.specs.Control.{PartControl, Skip, Stop, EnterPart, Waiting, Waits, Finishes, charged, halts, fails}
+use Rattle.ns_moves.specs.Bodies.{parameters_of, has_environment, first_locals, initialiser_of, no_home, opened}
+use Rattle.ns_moves.specs.Classes.{super_selector, factory_selector, object_part, part_of, super_part, body_ended}
+use Rattle.ns_moves.specs.Blocks.{block_entered, evaluated, method_next, new_block, new_text, new_array}
+use Rattle.ns_moves.specs.Sends.{sent, sent_plain, performed}
+use Rattle.ns_moves.specs.Onward.{after_reached, reached, part_reached, waiting_reached}
+use Rattle.ns_moves.specs.Actions.{Sends, SendsPlain, Performs, Evaluates, Continues, BeginsPart, EndsBody, MakesBlock, MakesText, MakesArray}
+use Rattle.ns_moves.specs.Actions.{FillsSlot, StoresLocal}
+use Rattle.ns_moves.specs.Spending.{ControlSpends}
+use Rattle.ns_moves.specs.laws.Onward.{charged_all}
+use Rattle.ns_moves.specs.laws.LeadingOn.{action_leads}
+use Rattle.ns_moves.specs.laws.Spending.{action_spends}
 use Rattle.ns_model.proofs.Fuel.{Later, Past, AfterLater, Moves, PartLater, WaitsLater, Facts}
 
 -- ---- from what the actions are known to leave

@@ -8,14 +8,14 @@ use Rattle.ns_world.specs.declared.value.Value.{Value}
 use Rattle.ns_world.specs.Heap.{is_ordered}
 use Rattle.ns_world.specs.declared.kernel_parts.KMethod.{KMethod}
 use Rattle.ns_kcode.specs.declared.state.KState.{KState}
-use Rattle.ns_actions.specs.declared.site.Site.{Site}
-use Rattle.ns_actions.specs.Control.{Progress, Activation, Exit, After, Gives, Halts, Control, Now, Enter, Evaluate, frame_left}
-use Rattle.ns_actions.specs.Control.{Begin, Perform, PartControl, Skip, Stop, EnterPart, Waiting, Waits, Finishes}
-use Rattle.ns_actions.specs.Onward.{reached}
-use Rattle.ns_actions.specs.Bodies.{local_stored}
-use Rattle.ns_actions.specs.Classes.{super_part, slot_filled, body_ended}
-use Rattle.ns_actions.specs.Blocks.{evaluated, method_next, taken, new_block, new_text, new_array}
-use Rattle.ns_actions.specs.Sends.{Target, ToSuper, to_value, sent, sent_plain, performed}
+use Rattle.ns_moves.specs.declared.site.Site.{Site}
+use Rattle.ns_moves.specs.Control.{Progress, Activation, Exit, After, Gives, Halts, Control, Now, Enter, Evaluate, frame_left}
+use Rattle.ns_moves.specs.Control.{Begin, Perform, PartControl, Skip, Stop, EnterPart, Waiting, Waits, Finishes}
+use Rattle.ns_moves.specs.Onward.{reached}
+use Rattle.ns_moves.specs.Bodies.{local_stored}
+use Rattle.ns_moves.specs.Classes.{super_part, slot_filled, body_ended}
+use Rattle.ns_moves.specs.Blocks.{evaluated, method_next, taken, new_block, new_text, new_array}
+use Rattle.ns_moves.specs.Sends.{Target, ToSuper, to_value, sent, sent_plain, performed}
 use Rattle.ns_resolved.specs.Program as m
 use Rattle.ns_resolved.specs.Tables.{sel_of}
 use Rattle.ns_model.specs.Outcome.{Completion, Yields, Returns, Ends, Spent, bind, settled, back, passed, is_home, homes_in, is_live}

@@ -15,9 +15,9 @@ use Rattle.ns_kcode.specs.Next.{next}
 use Rattle.ns_kcode.specs.Rows.{Host, double, beginning, answered, actions, times_row, acted as row_acted}
 use Rattle.ns_kcode.specs.laws.OneAfterAnother.{and_is, or_is, if_true_is, if_false_is, choice_is, exchanged_is, while_true_is, while_false_is}
 use Rattle.ns_kcode.specs.laws.OneAfterAnother.{times_is, no_times, do_is, to_do_is}
-use Rattle.ns_actions.specs.declared.site.Site.{Site}
-use Rattle.ns_actions.specs.Control.{Progress, in_world, Begin, Waits, Finishes, Halts, charged}
-use Rattle.ns_actions.specs.Blocks.{evaluated, acted, listed, item_at, waiting}
+use Rattle.ns_moves.specs.declared.site.Site.{Site}
+use Rattle.ns_moves.specs.Control.{Progress, in_world, Begin, Waits, Finishes, Halts, charged}
+use Rattle.ns_moves.specs.Blocks.{evaluated, acted, listed, item_at, waiting}
 use Rattle.ns_resolved.specs.Program.{Meant}
 use Rattle.ns_model.specs.Outcome.{Completion, Ends, bind, passed}
 use Rattle.ns_model.specs.Rows.{host, counted, repeated, method_row}

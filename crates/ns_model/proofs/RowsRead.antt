@@ -39,13 +39,13 @@ use Rattle.ns_mirror.specs.Selectors.{public_selectors, methods_of_shape}
 use Rattle.ns_mirror.specs.Mirror.{reflected, perform, mirror}
 use Rattle.ns_world.specs.declared.kernel_row.Row.{Row}
 use Rattle.ns_world.specs.declared.kernel_row.Row.TheVariants as row
-use Rattle.ns_actions.specs.declared.site.Site.{Site}
+use Rattle.ns_moves.specs.declared.site.Site.{Site}
 use Rattle.ns_classes.specs.Apply.{class_fault}
-use Rattle.ns_actions.specs.Control.{Progress, Gives, Now, gives}
-use Rattle.ns_actions.specs.Classes.{class_made, mixed}
-use Rattle.ns_actions.specs.Bodies.{parameters_of}
-use Rattle.ns_actions.specs.Blocks.{block_body_in}
-use Rattle.ns_actions.specs.Kernel.{outcome_reached, reflected_reached, facet_reached, data_reached, row_reached}
+use Rattle.ns_moves.specs.Control.{Progress, Gives, Now, gives}
+use Rattle.ns_moves.specs.Classes.{class_made, mixed}
+use Rattle.ns_moves.specs.Bodies.{parameters_of}
+use Rattle.ns_moves.specs.Blocks.{block_body_in}
+use Rattle.ns_moves.specs.Kernel.{outcome_reached, reflected_reached, facet_reached, data_reached, row_reached}
 use Rattle.ns_model.proofs.Lookups.{recoded, above_same, word_same}
 
 module _ (code : CodeProgram) (texts : List (List ℕ)) (bodies : List BodyCode) where

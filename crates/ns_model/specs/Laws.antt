@@ -11,12 +11,12 @@ use Rattle.ns_world.specs.Heap.{is_ordered}
 use Rattle.ns_world.specs.declared.kernel_parts.KMethod.{KMethod}
 use Rattle.ns_world.specs.declared.kernel_parts.KMethod.TheVariants as method
 use Rattle.ns_kcode.specs.Rows.{beginning}
-use Rattle.ns_actions.specs.declared.site.Site.{Site}
-use Rattle.ns_actions.specs.Control.{Progress, After, Gives, Halts, Control, Begin}
-use Rattle.ns_actions.specs.Blocks.{turns_of}
+use Rattle.ns_moves.specs.declared.site.Site.{Site}
+use Rattle.ns_moves.specs.Control.{Progress, After, Gives, Halts, Control, Begin}
+use Rattle.ns_moves.specs.Blocks.{turns_of}
 use Rattle.ns_facets.specs.declared.row.Grants.{Grants}
-use Rattle.ns_actions.specs.Sends.{sent_plain}
-use Rattle.ns_actions.specs.Start.{start_made}
+use Rattle.ns_moves.specs.Sends.{sent_plain}
+use Rattle.ns_moves.specs.Start.{start_made}
 use Rattle.ns_resolved.specs.Program.{Meant}
 use Rattle.ns_model.specs.Outcome.{Completion, Yields, Returns, Ends, Spent, is_live}
 use Rattle.ns_model.specs.Rows.{method_row}

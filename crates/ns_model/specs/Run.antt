@@ -4,10 +4,10 @@ use Rattle.std.specs.Option.{option_map_or}
 use Rattle.ns_code.specs.declared.program.CodeProgram.{CodeProgram}
 use Rattle.ns_world.specs.declared.value.Value.{Value}
 use Rattle.ns_world.specs.declared.kernel_parts.KMethod.{KMethod}
-use Rattle.ns_actions.specs.declared.site.Site.{Site}
-use Rattle.ns_actions.specs.Control.{Progress, Now, Enter, Evaluate, Begin, Perform, Skip, Stop, EnterPart, Waiting, Waits, Finishes}
-use Rattle.ns_actions.specs.Blocks.{evaluated, method_next, taken}
-use Rattle.ns_actions.specs.Sends.{performed}
+use Rattle.ns_moves.specs.declared.site.Site.{Site}
+use Rattle.ns_moves.specs.Control.{Progress, Now, Enter, Evaluate, Begin, Perform, Skip, Stop, EnterPart, Waiting, Waits, Finishes}
+use Rattle.ns_moves.specs.Blocks.{evaluated, method_next, taken}
+use Rattle.ns_moves.specs.Sends.{performed}
 use Rattle.ns_resolved.specs.Program.{Meant, Body, Does, as_method}
 use Rattle.ns_model.specs.Outcome.{Completion, Yields, Ends, Spent, bind, settled, passed, homes_in, finish, finish_part}
 use Rattle.ns_model.specs.Eval.{Call, PartCall, eval_body}

@@ -9,14 +9,14 @@ use Rattle.ns_world.specs.declared.value.Value.{Value}
 use Rattle.ns_world.specs.declared.ending.Ending.{Ending}
 use Rattle.ns_world.specs.Heap.{Heap}
 use Rattle.ns_facets.specs.declared.row.Grants.{Grants}
-use Rattle.ns_actions.specs.declared.site.Site.{Site}
-use Rattle.ns_actions.specs.Control.{Progress, Activation, Exit, Control}
-use Rattle.ns_actions.specs.Bodies.{local_at, locals_with, local_stored}
-use Rattle.ns_actions.specs.Blocks.{evaluated}
-use Rattle.ns_actions.specs.Classes.{super_part, slot_filled, body_ended}
-use Rattle.ns_actions.specs.Sends.{Target, sent, sent_plain, performed}
-use Rattle.ns_actions.specs.Start.{start_made}
-use Rattle.ns_actions.specs.Report.{report_line}
+use Rattle.ns_moves.specs.declared.site.Site.{Site}
+use Rattle.ns_moves.specs.Control.{Progress, Activation, Exit, Control}
+use Rattle.ns_moves.specs.Bodies.{local_at, locals_with, local_stored}
+use Rattle.ns_moves.specs.Blocks.{evaluated}
+use Rattle.ns_moves.specs.Classes.{super_part, slot_filled, body_ended}
+use Rattle.ns_moves.specs.Sends.{Target, sent, sent_plain, performed}
+use Rattle.ns_moves.specs.Start.{start_made}
+use Rattle.ns_moves.specs.Report.{report_line}
 use Rattle.ns_resolved.specs.Program.{Meant}
 use Rattle.ns_model.specs.Run.{run}
 use Rattle.ns_model.specs.Whole.{RunEnd, ran, report_of}

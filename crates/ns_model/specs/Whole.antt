@@ -15,10 +15,10 @@ use Rattle.ns_world.specs.declared.ending.Ending.TheVariants.{Done, Error, Limit
 use Rattle.ns_world.specs.declared.ending.LimitKind.TheVariants.{Steps}
 use Rattle.ns_world.specs.World.{counters_of}
 use Rattle.ns_facets.specs.declared.row.Grants.{Grants}
-use Rattle.ns_actions.specs.Control.{Progress, After, Gives, Halts}
-use Rattle.ns_actions.specs.Sends.{sent_plain, own_sel}
-use Rattle.ns_actions.specs.Report.{report_line}
-use Rattle.ns_actions.specs.Start.{start_made, manifest, platform, first_class}
+use Rattle.ns_moves.specs.Control.{Progress, After, Gives, Halts}
+use Rattle.ns_moves.specs.Sends.{sent_plain, own_sel}
+use Rattle.ns_moves.specs.Report.{report_line}
+use Rattle.ns_moves.specs.Start.{start_made, manifest, platform, first_class}
 use Rattle.ns_resolved.specs.Tables.{tables}
 use Rattle.ns_resolved.specs.Program.{Meant, Declaration, Does, as_initialiser}
 use Rattle.ns_model.specs.Outcome.{Completion, Yields, Returns, Ends, Spent, bind}

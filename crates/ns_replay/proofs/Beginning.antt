@@ -1,10 +1,10 @@
 -- What a machine has used that was made and started.
 use Rattle.std.proofs.Common.{◌≡◌, ℕ, ◌+◌, List, [], ◌∷◌, refl, inl, inr, Some, None, Bool, true, false, nat_le, if◌then◌else◌}
-use Rattle.ns_actions.specs.Control.{Progress, After, Gives, Halts, charged}
-use Rattle.ns_actions.specs.Start.{all_made, nothing_done, start_cells, start_made}
+use Rattle.ns_moves.specs.Control.{Progress, After, Gives, Halts, charged}
+use Rattle.ns_moves.specs.Start.{all_made, nothing_done, start_cells, start_made}
 use Rattle.ns_code.specs.declared.program.CodeProgram.{CodeProgram}
 use Rattle.ns_facets.specs.declared.row.Grants.{Grants}
-use Rattle.ns_machine_moves.specs.Starts.{started, unbegun}
+use Rattle.ns_moves.specs.Starts.{started, unbegun}
 use Rattle.ns_replay.specs.Laws.{StartedCanBegin}
 use Rattle.ns_replay.specs.Replay.{CanBegin}
 use Rattle.ns_world.specs.Cell.{Cell, cell_size}

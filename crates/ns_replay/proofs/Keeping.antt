@@ -5,9 +5,9 @@ use Rattle.std.proofs.lemmas.Bool.{cases_eq}
 use Rattle.slab.specs.Slab.{Slab, Updates, get}
 use Rattle.ns_code.specs.declared.program.CodeProgram.{CodeProgram}
 use Rattle.ns_facets.specs.declared.row.Grants.{Grants}
-use Rattle.ns_machine_moves.specs.State.{Phase, Start, First, Second, Hosted, State, Unbegun, Going, Pends, Ended, Stuck, ending_of}
+use Rattle.ns_moves.specs.State.{Phase, Start, First, Second, Hosted, State, Unbegun, Going, Pends, Ended, Stuck, ending_of}
 use Rattle.ns_frozen.specs.Laws.{IsTold}
-use Rattle.ns_machine_moves.specs.Valid.{Valid}
+use Rattle.ns_moves.specs.Valid.{Valid}
 use Rattle.ns_replay.specs.Replay.{AreKept, AreLeft, CanBegin, IsEndedAtStart, IsKept}
 use Rattle.ns_replay.specs.declared.kept.Kept.{Kept}
 

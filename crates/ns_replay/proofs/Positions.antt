@@ -1,17 +1,17 @@
 -- A position is the step that was asked for, or the last one of the run.
 use Rattle.std.proofs.Common.{◌≡◌, ◌∙◌, ℕ, zero, suc, ◌+◌, ◌-◌, ◌≤◌, refl, sym, ap, subst, inl, inr, arith, Bool, true, false}
-use Rattle.ns_actions.specs.Control.{Progress}
+use Rattle.ns_moves.specs.Control.{Progress}
 use Rattle.ns_code.specs.declared.program.CodeProgram.{CodeProgram}
 use Rattle.ns_facets.specs.declared.row.Grants.{Grants}
-use Rattle.ns_machine_moves.specs.Charges.{MoveTook, TakesAsTold, ChargesAsTold}
-use Rattle.ns_machine_moves.specs.Charging.{will_charge}
-use Rattle.ns_machine_moves.specs.Move.{move, moves}
-use Rattle.ns_machine_moves.specs.Standing.{MovesKeepValid}
-use Rattle.ns_machine_moves.specs.State.{State, progress_of}
-use Rattle.ns_machine_moves.specs.Stated.{StaysStill, TurnsAdd, TurnsLeaveOne}
-use Rattle.ns_machine_moves.specs.Turn.{is_still, charges, one_if, charged_in, Turns}
-use Rattle.ns_machine_moves.specs.Valid.{Valid}
-use Rattle.ns_machine_moves.specs.laws.Still.{can_move, limited_still, none_charged}
+use Rattle.ns_moves.specs.Charges.{MoveTook, TakesAsTold, ChargesAsTold}
+use Rattle.ns_moves.specs.Charging.{will_charge}
+use Rattle.ns_moves.specs.Move.{move, moves}
+use Rattle.ns_moves.specs.Standing.{MovesKeepValid}
+use Rattle.ns_moves.specs.State.{State, progress_of}
+use Rattle.ns_moves.specs.StatedMoves.{StaysStill, TurnsAdd, TurnsLeaveOne}
+use Rattle.ns_moves.specs.Turn.{is_still, charges, one_if, charged_in, Turns}
+use Rattle.ns_moves.specs.Valid.{Valid}
+use Rattle.ns_moves.specs.laws.Still.{can_move, limited_still, none_charged}
 use Rattle.ns_replay.specs.At.{position_in}
 use Rattle.ns_replay.specs.Laws.{PositionsAreLeast}
 

@@ -10,11 +10,11 @@ use Rattle.ns_frozen.specs.Laws.{IsTold, ThawsBack, ValidFreezes}
 use Rattle.ns_frozen.specs.Thawing.{thawed}
 use Rattle.ns_frozen.specs.declared.frozen.Frozen.{Frozen}
 use Rattle.ns_machine.specs.Machine.{MachineView}
-use Rattle.ns_machine_moves.specs.Onward.{MovesGoOnward}
-use Rattle.ns_machine_moves.specs.State.{State, Unbegun, Going, Pends, Ended, Stuck, ending_of, world_of}
-use Rattle.ns_machine_moves.specs.Stated.{TurnsAdd}
-use Rattle.ns_machine_moves.specs.Turn.{Turns}
-use Rattle.ns_machine_moves.specs.Valid.{Valid}
+use Rattle.ns_moves.specs.MovesOnward.{MovesGoOnward}
+use Rattle.ns_moves.specs.State.{State, Unbegun, Going, Pends, Ended, Stuck, ending_of, world_of}
+use Rattle.ns_moves.specs.StatedMoves.{TurnsAdd}
+use Rattle.ns_moves.specs.Turn.{Turns}
+use Rattle.ns_moves.specs.Valid.{Valid}
 use Rattle.ns_replay.proofs.Keeping.{begin_told, going_told}
 use Rattle.ns_replay.specs.At.{at, position_in}
 use Rattle.ns_replay.specs.Replay.{CanBegin, IsKept, ReplayView, Replays, StandsFor, gone_to, replay_of, view_of}

@@ -1,7 +1,7 @@
 -- Where a run stands that was given so many steps from its start.
 use Rattle.std.specs.Prelude.{ℕ}
 use Rattle.ns_code.specs.declared.program.CodeProgram.{CodeProgram}
-use Rattle.ns_machine_moves.specs.State.{State, world_of}
+use Rattle.ns_moves.specs.State.{State, world_of}
 use Rattle.ns_session.specs.Turned.{turned}
 
 -- a turn of so many steps from the start

@@ -7,9 +7,9 @@ use Rattle.ns_frozen.specs.Freezing.{frozen_of}
 use Rattle.ns_frozen.specs.Thawing.{thawed}
 use Rattle.ns_frozen.specs.declared.frozen.Frozen.{Frozen}
 use Rattle.ns_machine.specs.Machine.{MachineView}
-use Rattle.ns_machine_moves.specs.State.{State, Ended, Start}
-use Rattle.ns_machine_moves.specs.Turn.{is_still, Turns}
-use Rattle.ns_machine_moves.specs.Valid.{Valid}
+use Rattle.ns_moves.specs.State.{State, Ended, Start}
+use Rattle.ns_moves.specs.Turn.{is_still, Turns}
+use Rattle.ns_moves.specs.Valid.{Valid}
 use Rattle.ns_replay.specs.At.{at, position_in}
 use Rattle.ns_replay.specs.declared.kept.Kept.{Kept}
 

@@ -9,10 +9,10 @@ ghost use Rattle.ns_replay.specs.Laws.{PositionsAreLeast, StartedCanBegin};
 pub fn positions_are_least()
     ensures { (code : CodeProgram) (grants : Grants) → PositionsAreLeast code grants }
 {
-    ns_machine_moves::laws::turns_add();
-    ns_machine_moves::laws::ended_runs_stay();
-    ns_machine_moves::laws::moves_charge_as_told();
-    ns_machine_moves::valid_frames::moves_keep_valid();
+    ns_moves::move_laws::turns_add();
+    ns_moves::move_laws::ended_runs_stay();
+    ns_moves::move_laws::moves_charge_as_told();
+    ns_moves::valid_frames::moves_keep_valid();
 }
 
 /// A machine that was made and started can be replayed: no step is used, and its run goes on or was ended by its start.

@@ -13,7 +13,7 @@ use ns_base::no_memory::NoMemory;
 use ns_frozen::frozen::Frozen;
 use ns_frozen::laws::states_thaw_back;
 use ns_machine::machine::Machine;
-use ns_machine_moves::laws::turns_add;
+use ns_moves::move_laws::turns_add;
 use ns_session::robin_laws::turns_are_a_function;
 use slab::Slab;
 use std::alloc::Global;

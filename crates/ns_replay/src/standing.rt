@@ -2,14 +2,14 @@
 
 ghost use Rattle.std.specs.Prelude.{◌≡◌, ◌≤◌};
 ghost use Rattle.ns_frozen.specs.Thawing.{thawed};
-ghost use Rattle.ns_machine_moves.specs.State.{world_of};
+ghost use Rattle.ns_moves.specs.State.{world_of};
 ghost use Rattle.ns_replay.specs.Replay.{IsKept, Replays, StandsFor};
 
 use crate::kept::{Kept, latest};
 use ns_frozen::frozen::Frozen;
 use ns_frozen::laws::valid_states_freeze;
 use ns_machine::machine::Machine;
-use ns_machine_moves::laws::moves_go_onward;
+use ns_moves::move_laws::moves_go_onward;
 use slab::Slab;
 
 /// Puts a machine back where it stood last at this step or before it, and answers the step of that; it stays where it is, if that

@@ -3,12 +3,12 @@ use Rattle.std.proofs.Common.{◌≡◌, Some, true, refl}
 use Rattle.ns_code.specs.declared.program.CodeProgram.{CodeProgram}
 use Rattle.ns_facets.specs.declared.row.Grants.{Grants}
 use Rattle.ns_world.specs.declared.ending.Ending.{Ending}
-use Rattle.ns_machine_moves.specs.Beginning.{NewIsValid, StartKeepsValid, HostKeepsValid}
-use Rattle.ns_machine_moves.specs.Falling.{run_left}
-use Rattle.ns_machine_moves.specs.Starts.{begun, new_machine}
-use Rattle.ns_machine_moves.specs.State.{State, Unbegun, Going, Pends, Ended, Stuck, ending_of}
-use Rattle.ns_machine_moves.specs.Stated.{MovesAdd, StaysStill}
-use Rattle.ns_machine_moves.specs.Turn.{is_still}
+use Rattle.ns_moves.specs.Beginning.{NewIsValid, StartKeepsValid, HostKeepsValid}
+use Rattle.ns_moves.specs.Falling.{run_left}
+use Rattle.ns_moves.specs.Starts.{begun, new_machine}
+use Rattle.ns_moves.specs.State.{State, Unbegun, Going, Pends, Ended, Stuck, ending_of}
+use Rattle.ns_moves.specs.StatedMoves.{MovesAdd, StaysStill}
+use Rattle.ns_moves.specs.Turn.{is_still}
 use Rattle.ns_run_code.specs.Machine.{begins_with, rested}
 use Rattle.ns_run_code.specs.Resting.{ValidComesToRest, ValidEndsAtRest, RunsEndAtRest, SendsEndAtRest}
 use Rattle.ns_run_code.specs.Run.{granted}

@@ -7,23 +7,23 @@ use Rattle.ns_code.specs.declared.program.CodeProgram.{CodeProgram}
 use Rattle.ns_find.specs.declared.found.Sending.TheVariants.{Inner}
 use Rattle.ns_world.specs.declared.kernel_parts.KMethod.{KMethod}
 use Rattle.ns_kdata.specs.Arguments.{items_of}
-use Rattle.ns_machine_moves.specs.Arrivals.{arrived, part_arrived, acted_on}
-use Rattle.ns_machine_moves.specs.Instructions.{executed}
-use Rattle.ns_machine_moves.specs.Jumps.{goes_back, takes_jump, jumped, jumped_on}
-use Rattle.ns_machine_moves.specs.Move.{sent_on, move, moves}
-use Rattle.ns_machine_moves.specs.Operands.{on_top, taken_off, picked}
-use Rattle.ns_machine_moves.specs.Returns.{is_home, has_home, delivered, settled, returned, unwound, returned_home}
-use Rattle.ns_machine_moves.specs.Starts.{started}
-use Rattle.ns_machine_moves.specs.State.{Leaving, Loud, Silent, Frame, Running, Looping, Sending, Performing, Evaluating}
-use Rattle.ns_machine_moves.specs.State.{Phase, Start, First, Second, Hosted, State, Unbegun, Going, Pends, Ended, Stuck}
-use Rattle.ns_machine_moves.specs.Steps.{PlacedInstr, steps_from, literal}
-use Rattle.ns_actions.specs.Blocks.{evaluated, method_next, new_block, new_text, new_array}
+use Rattle.ns_moves.specs.Arrivals.{arrived, part_arrived, acted_on}
+use Rattle.ns_moves.specs.Instructions.{executed}
+use Rattle.ns_moves.specs.Jumps.{goes_back, takes_jump, jumped, jumped_on}
+use Rattle.ns_moves.specs.Move.{sent_on, move, moves}
+use Rattle.ns_moves.specs.Operands.{on_top, taken_off, picked}
+use Rattle.ns_moves.specs.Returns.{is_home, has_home, delivered, settled, returned, unwound, returned_home}
+use Rattle.ns_moves.specs.Starts.{started}
+use Rattle.ns_moves.specs.State.{Leaving, Loud, Silent, Frame, Running, Looping, Sending, Performing, Evaluating}
+use Rattle.ns_moves.specs.State.{Phase, Start, First, Second, Hosted, State, Unbegun, Going, Pends, Ended, Stuck}
+use Rattle.ns_moves.specs.Steps.{PlacedInstr, steps_from, literal}
+use Rattle.ns_moves.specs.Blocks.{evaluated, method_next, new_block, new_text, new_array}
 use Rattle.ns_world.specs.Booleans.{is_boolean}
-use Rattle.ns_actions.specs.Classes.{body_ended, super_part}
-use Rattle.ns_actions.specs.Control.{Progress, Activation, After, Gives, Halts, Control, Now, Enter, Evaluate, Begin, Perform, charged, frame_left}
-use Rattle.ns_actions.specs.Control.{PartControl, Skip, Stop, EnterPart, Waiting, Waits, Finishes}
-use Rattle.ns_actions.specs.Sends.{To, ToPrivate, ToSuper, to_value, sent}
-use Rattle.ns_actions.specs.declared.site.Site.{Site}
+use Rattle.ns_moves.specs.Classes.{body_ended, super_part}
+use Rattle.ns_moves.specs.Control.{Progress, Activation, After, Gives, Halts, Control, Now, Enter, Evaluate, Begin, Perform, charged, frame_left}
+use Rattle.ns_moves.specs.Control.{PartControl, Skip, Stop, EnterPart, Waiting, Waits, Finishes}
+use Rattle.ns_moves.specs.Sends.{To, ToPrivate, ToSuper, to_value, sent}
+use Rattle.ns_moves.specs.declared.site.Site.{Site}
 use Rattle.ns_world.specs.World.{World, stepped}
 use Rattle.ns_world.specs.declared.ending.LimitKind.TheVariants.{Steps}
 use Rattle.ns_world.specs.declared.value.Value.{Value}

@@ -1,14 +1,14 @@
 -- Each run of admitted code comes to its end, and what is told of it there is what the machine tells.
 use Rattle.std.proofs.Common.{◌≡◌, ℕ, Some, true, refl, sym, ap, subst, ◌∙◌}
 use Rattle.ns_code.specs.declared.program.CodeProgram.{CodeProgram}
-use Rattle.ns_machine_moves.specs.Falling.{run_left}
-use Rattle.ns_machine_moves.specs.Beginning.{NewIsValid, StartKeepsValid}
-use Rattle.ns_machine_moves.specs.Stated.{MovesAdd, StaysStill}
-use Rattle.ns_machine_moves.specs.Move.{moves}
-use Rattle.ns_machine_moves.specs.Starts.{new_machine}
-use Rattle.ns_machine_moves.specs.State.{State, Unbegun, Going, Pends, Ended, Stuck, ending_of}
-use Rattle.ns_machine_moves.specs.Turn.{is_still}
-use Rattle.ns_machine_moves.specs.Valid.{Valid}
+use Rattle.ns_moves.specs.Falling.{run_left}
+use Rattle.ns_moves.specs.Beginning.{NewIsValid, StartKeepsValid}
+use Rattle.ns_moves.specs.StatedMoves.{MovesAdd, StaysStill}
+use Rattle.ns_moves.specs.Move.{moves}
+use Rattle.ns_moves.specs.Starts.{new_machine}
+use Rattle.ns_moves.specs.State.{State, Unbegun, Going, Pends, Ended, Stuck, ending_of}
+use Rattle.ns_moves.specs.Turn.{is_still}
+use Rattle.ns_moves.specs.Valid.{Valid}
 use Rattle.ns_world.specs.declared.ending.Ending.{Ending}
 use Rattle.ns_run_code.specs.Laws.{ComesToItsEnd, CodeEnds}
 use Rattle.ns_run_code.specs.Machine.{begins_with, rested, end_of, told_at}

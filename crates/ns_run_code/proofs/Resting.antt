@@ -2,15 +2,15 @@
 use Rattle.std.proofs.Common.{◌≡◌, ℕ, zero, suc, ◌+◌, ◌^◌, ◌≤◌, ◌⊎◌, inl, inr, refl, sym, ap, subst, ◌∙◌, arith, Bool, true, false}
 use Rattle.ns_code.specs.declared.program.CodeProgram.{CodeProgram}
 use Rattle.ns_facets.specs.declared.row.Grants.{Grants}
-use Rattle.ns_machine_moves.specs.Falling.{LeftIsBelowPower, MovesLower, power_left, run_left}
-use Rattle.ns_machine_moves.specs.Stated.{MovesAdd, StaysStill}
-use Rattle.ns_machine_moves.specs.Move.{move, moves}
-use Rattle.ns_machine_moves.specs.Standing.{MovesKeepValid}
-use Rattle.ns_machine_moves.specs.State.{State, world_of}
-use Rattle.ns_machine_moves.specs.Turn.{is_still}
-use Rattle.ns_machine_moves.specs.Valid.{Valid}
-use Rattle.ns_machine_moves.specs.Doubling.{times, until}
-use Rattle.ns_machine_moves.specs.laws.Doubling.{leads}
+use Rattle.ns_moves.specs.Falling.{LeftIsBelowPower, MovesLower, power_left, run_left}
+use Rattle.ns_moves.specs.StatedMoves.{MovesAdd, StaysStill}
+use Rattle.ns_moves.specs.Move.{move, moves}
+use Rattle.ns_moves.specs.Standing.{MovesKeepValid}
+use Rattle.ns_moves.specs.State.{State, world_of}
+use Rattle.ns_moves.specs.Turn.{is_still}
+use Rattle.ns_moves.specs.Valid.{Valid}
+use Rattle.ns_moves.specs.Doubling.{times, until}
+use Rattle.ns_moves.specs.laws.Doubling.{leads}
 use Rattle.ns_run_code.specs.Machine.{rested}
 use Rattle.ns_run_code.specs.Resting.{ValidComesToRest, MovesKeepRest, StillIsRested}
 

@@ -3,13 +3,13 @@ use Rattle.std.specs.Prelude.{◌≡◌, ℕ, List}
 use Rattle.ns_base.specs.Limits.{InRange}
 use Rattle.ns_base.specs.declared.limits.Limits.{Limits}
 use Rattle.ns_code.specs.declared.program.CodeProgram.{CodeProgram}
-use Rattle.ns_machine_moves.specs.Falling.{run_left}
+use Rattle.ns_moves.specs.Falling.{run_left}
 use Rattle.ns_gen_code.specs.Code.{code_of}
 use Rattle.ns_link.specs.Stated.{MayRun}
 use Rattle.ns_resolved.specs.Program.{Meant}
-use Rattle.ns_machine_moves.specs.Move.{moves}
-use Rattle.ns_machine_moves.specs.State.{Phase, State, Ended}
-use Rattle.ns_actions.specs.Control.{Progress}
+use Rattle.ns_moves.specs.Move.{moves}
+use Rattle.ns_moves.specs.State.{Phase, State, Ended}
+use Rattle.ns_moves.specs.Control.{Progress}
 use Rattle.ns_world.specs.declared.ending.Ending.{Ending}
 use Rattle.ns_run_code.specs.Machine.{begins_with, rested, machine_run}
 use Rattle.ns_run_code.specs.Resting.{IsRunnable}

@@ -5,12 +5,12 @@ use Rattle.ns_code.specs.declared.program.CodeProgram.{CodeProgram}
 use Rattle.ns_world.specs.declared.ending.Ending.{Ending}
 use Rattle.ns_world.specs.declared.ending.Ending.TheVariants.{Limit}
 use Rattle.ns_world.specs.declared.ending.LimitKind.TheVariants.{Steps}
-use Rattle.ns_machine_moves.specs.Doubling.{until}
-use Rattle.ns_machine_moves.specs.Falling.{power_left}
-use Rattle.ns_machine_moves.specs.Move.{move}
-use Rattle.ns_machine_moves.specs.Starts.{new_machine, started}
-use Rattle.ns_machine_moves.specs.State.{State, ending_of, world_of}
-use Rattle.ns_machine_moves.specs.Turn.{is_still}
+use Rattle.ns_moves.specs.Doubling.{until}
+use Rattle.ns_moves.specs.Falling.{power_left}
+use Rattle.ns_moves.specs.Move.{move}
+use Rattle.ns_moves.specs.Starts.{new_machine, started}
+use Rattle.ns_moves.specs.State.{State, ending_of, world_of}
+use Rattle.ns_moves.specs.Turn.{is_still}
 use Rattle.ns_run_code.specs.declared.run.Ran.{Ran}
 use Rattle.ns_run_code.specs.Run.{granted}
 use Rattle.ns_run_code.specs.Running.{told_of}

@@ -9,13 +9,13 @@ use Rattle.ns_facets.specs.declared.row.Grants.{Grants}
 use Rattle.ns_verify.specs.Verify.{IsSound}
 use Rattle.ns_world.specs.declared.ending.Ending.{Ending}
 use Rattle.ns_world.specs.declared.value.Value.{Value}
-use Rattle.ns_machine_moves.specs.Beginning.{MayBegin}
-use Rattle.ns_machine_moves.specs.Falling.{run_left}
-use Rattle.ns_machine_moves.specs.Move.{moves}
-use Rattle.ns_machine_moves.specs.Starts.{begun}
-use Rattle.ns_machine_moves.specs.State.{State}
-use Rattle.ns_machine_moves.specs.Turn.{is_still}
-use Rattle.ns_machine_moves.specs.Valid.{Valid}
+use Rattle.ns_moves.specs.Beginning.{MayBegin}
+use Rattle.ns_moves.specs.Falling.{run_left}
+use Rattle.ns_moves.specs.Move.{moves}
+use Rattle.ns_moves.specs.Starts.{begun}
+use Rattle.ns_moves.specs.State.{State}
+use Rattle.ns_moves.specs.Turn.{is_still}
+use Rattle.ns_moves.specs.Valid.{Valid}
 use Rattle.ns_machine.specs.Turning.{Ran}
 use Rattle.ns_run_code.specs.Machine.{begins_with, rested}
 

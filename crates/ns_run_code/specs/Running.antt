@@ -5,8 +5,8 @@ use Rattle.ns_base.specs.declared.status.Status.TheVariants.{Done, ProgramError,
 use Rattle.ns_code.specs.declared.program.CodeProgram.{CodeProgram}
 use Rattle.ns_world.specs.declared.ending.Ending.{Ending}
 use Rattle.ns_world.specs.World.{counters_of}
-use Rattle.ns_actions.specs.Report.{report_line}
-use Rattle.ns_machine_moves.specs.State.{State, ending_of, world_of}
+use Rattle.ns_moves.specs.Report.{report_line}
+use Rattle.ns_moves.specs.State.{State, ending_of, world_of}
 use Rattle.ns_model.specs.Whole.{status_of}
 use Rattle.ns_run_code.specs.declared.run.Ran.{Ran}
 

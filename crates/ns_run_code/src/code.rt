@@ -6,7 +6,7 @@ ghost use Rattle.ns_run_code.specs.Machine.{begins_with, rested, told_at, machin
 ghost use Rattle.ns_run_code.specs.Run.{granted};
 ghost use Rattle.ns_run_code.specs.Running.{HasAnEnd, IsRunStatus, told_of};
 ghost use Rattle.ns_model.specs.Whole as whole;
-ghost use Rattle.ns_machine_moves.specs.State.{world_of};
+ghost use Rattle.ns_moves.specs.State.{world_of};
 ghost use Rattle.ns_machine_report.specs.Ending.{IsLiveEnding};
 
 use crate::laws::runs_end_at_rest;

@@ -13,11 +13,11 @@ pub fn valid_runs_come_to_rest()
     ensures moves { (code : CodeProgram) (grants : Grants) → MovesKeepRest code grants }
     ensures still { (code : CodeProgram) (grants : Grants) → StillIsRested code grants }
 {
-    ns_machine_moves::laws::moves_add();
-    ns_machine_moves::laws::ended_runs_stay();
-    ns_machine_moves::valid_frames::moves_keep_valid();
-    ns_machine_moves::falling::moves_lower();
-    ns_machine_moves::falling::left_is_below_a_power();
+    ns_moves::move_laws::moves_add();
+    ns_moves::move_laws::ended_runs_stay();
+    ns_moves::valid_frames::moves_keep_valid();
+    ns_moves::falling::moves_lower();
+    ns_moves::falling::left_is_below_a_power();
 }
 
 /// A run from a valid state to an end has come to where it comes to rest: the run of admitted code from its start on, and any
@@ -28,11 +28,11 @@ pub fn runs_end_at_rest()
     ensures sends { (code : CodeProgram) (grants : Grants) → SendsEndAtRest code grants }
 {
     valid_runs_come_to_rest();
-    ns_machine_moves::laws::moves_add();
-    ns_machine_moves::laws::ended_runs_stay();
-    ns_machine_moves::valid_world::new_machines_are_valid();
-    ns_machine_moves::valid_world::opening_sends_are_valid();
-    ns_machine_moves::valid_world::sends_of_a_host_are_valid();
+    ns_moves::move_laws::moves_add();
+    ns_moves::move_laws::ended_runs_stay();
+    ns_moves::valid_world::new_machines_are_valid();
+    ns_moves::valid_world::opening_sends_are_valid();
+    ns_moves::valid_world::sends_of_a_host_are_valid();
 }
 
 /// Each run of admitted code ends, with limits in their ranges: where moves lead no further it has ended, and there it is
@@ -41,8 +41,8 @@ pub fn code_comes_to_its_end()
     ensures { (code : CodeProgram) → CodeEnds code }
 {
     valid_runs_come_to_rest();
-    ns_machine_moves::valid_world::new_machines_are_valid();
-    ns_machine_moves::valid_world::opening_sends_are_valid();
+    ns_moves::valid_world::new_machines_are_valid();
+    ns_moves::valid_world::opening_sends_are_valid();
 }
 
 /// The run of a program's code is the run that its source means, with all arguments and at all limits.
@@ -50,7 +50,7 @@ pub fn code_runs_as_meant()
     ensures { (meant : Meant) → CodeRunsAsMeant meant }
 {
     code_comes_to_its_end();
-    ns_machine_moves::laws::moves_add();
-    ns_machine_moves::laws::ended_runs_stay();
+    ns_moves::move_laws::moves_add();
+    ns_moves::move_laws::ended_runs_stay();
     ns_link::laws::the_machine_does_what_is_meant();
 }

@@ -17,8 +17,8 @@ use Rattle.ns_json.specs.declared.saying.Refused.TheVariants as what
 use Rattle.ns_run_outcome.specs.Report.{place_in, place_text, refusal, refused_file, unsound, verify_name}
 use Rattle.ns_run_outcome.specs.laws.Cut.{cut_same}
 use Rattle.ns_run_code.specs.Machine.{end_of, rested}
-use Rattle.ns_machine_moves.specs.Starts.{started}
-use Rattle.ns_machine_moves.specs.State.{State, ending_of}
+use Rattle.ns_moves.specs.Starts.{started}
+use Rattle.ns_moves.specs.State.{State, ending_of}
 use Rattle.ns_run_outcome.specs.Run.{run_report}
 use Rattle.ns_run_outcome.specs.laws.Plain.{IsPlainFor, begins_so, line_plain_for, refused_plain, run_plain, told_plain_for}
 use Rattle.ns_run_image.specs.Image.{ImageWork, Lists, Audits, Resumes, audit_report, listing_asked, of_audited, of_image_bytes, of_image_fault, of_image_file, of_listed, of_members, of_resumed, of_short, of_snap_fault, plain_telling}

@@ -10,7 +10,7 @@ use Rattle.ns_base.specs.declared.no_memory.NoMemory.{NoMemory}
 use Rattle.ns_code.specs.declared.program.CodeProgram.{CodeProgram}
 use Rattle.ns_json.specs.declared.saying.Run.{Run}
 use Rattle.ns_json.specs.declared.saying.Trace.{Trace}
-use Rattle.ns_machine_moves.specs.State.{ending_of}
+use Rattle.ns_moves.specs.State.{ending_of}
 use Rattle.ns_run_code.specs.Machine.{begins_with, end_of, machine_run, rested}
 use Rattle.ns_run_code.specs.declared.run.Ran.{Ran}
 use Rattle.ns_run_input.specs.Input.{InputRead, asked, code_report, input_of, kept_for, measured, parts_of, read_then, reads, refuses, seen, lines_of, trace_of, traced_report, with_inputs}

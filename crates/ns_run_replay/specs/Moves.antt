@@ -2,7 +2,7 @@
 use Rattle.std.specs.Prelude.{ℕ, ◌+◌, ◌-◌, List, [], ◌∷◌, ◌++◌, codes}
 use Rattle.std.specs.Fmt.{decimal}
 use Rattle.ns_code.specs.declared.program.CodeProgram.{CodeProgram}
-use Rattle.ns_machine_moves.specs.State.{State, world_of}
+use Rattle.ns_moves.specs.State.{State, world_of}
 use Rattle.ns_replay.specs.At.{at, position_in}
 use Rattle.ns_run_words.specs.declared.moves.Move.{Move}
 use Rattle.ns_run_words.specs.declared.moves.Move.TheVariants.{Forward, Back, To}

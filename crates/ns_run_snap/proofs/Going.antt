@@ -2,13 +2,13 @@
 use Rattle.std.proofs.Common.{ℕ, zero, suc, refl, subst, ◌∙◌, Bool, true, false, if◌then◌else◌}
 use Rattle.ns_code.specs.declared.program.CodeProgram.{CodeProgram}
 use Rattle.ns_facets.specs.declared.row.Grants.{Grants}
-use Rattle.ns_machine_moves.specs.Doubling.{times}
-use Rattle.ns_machine_moves.specs.Falling.{power_left}
-use Rattle.ns_machine_moves.specs.laws.Doubling.{leads}
-use Rattle.ns_machine_moves.specs.Move.{move}
-use Rattle.ns_machine_moves.specs.Standing.{MovesKeepValid}
-use Rattle.ns_machine_moves.specs.State.{State, world_of}
-use Rattle.ns_machine_moves.specs.Turn.{charges}
+use Rattle.ns_moves.specs.Doubling.{times}
+use Rattle.ns_moves.specs.Falling.{power_left}
+use Rattle.ns_moves.specs.laws.Doubling.{leads}
+use Rattle.ns_moves.specs.Move.{move}
+use Rattle.ns_moves.specs.Standing.{MovesKeepValid}
+use Rattle.ns_moves.specs.State.{State, world_of}
+use Rattle.ns_moves.specs.Turn.{charges}
 use Rattle.ns_run_code.specs.Resting.{MovesKeepRest}
 use Rattle.ns_run_snap.specs.Laws.{GoesOnFrom, TurnsGoOn}
 use Rattle.ns_session.specs.Turned.{TurnUnderway, is_over, moved_on, steps_behind}

@@ -1,20 +1,20 @@
 -- A run that is paused goes on from its snapshot to where it comes to rest.
 use Rattle.std.proofs.Common.{◌≡◌, ℕ, zero, suc, [], refl, sym, ap, ◌∙◌, true}
-use Rattle.ns_actions.specs.Control.{Progress}
+use Rattle.ns_moves.specs.Control.{Progress}
 use Rattle.ns_code.specs.declared.program.CodeProgram.{CodeProgram}
 use Rattle.ns_facets.specs.declared.row.Grants.{Grants}
 use Rattle.ns_frozen.specs.Freezing.{frozen_of}
 use Rattle.ns_frozen.specs.Laws.{ThawsBack, ValidFreezes}
 use Rattle.ns_frozen.specs.Thawing.{arguments_in, heap_thawed, progress_thawed, thawed}
 use Rattle.ns_gen_code.specs.Code.{code_of}
-use Rattle.ns_machine_moves.specs.Beginning.{NewIsValid, StartKeepsValid}
-use Rattle.ns_machine_moves.specs.Doubling.{until}
-use Rattle.ns_machine_moves.specs.Falling.{power_left}
-use Rattle.ns_machine_moves.specs.Move.{move}
-use Rattle.ns_machine_moves.specs.Starts.{started}
-use Rattle.ns_machine_moves.specs.State.{Phase, Start, First, Second, Hosted, State, Unbegun, Going, Pends, Ended, Stuck, world_of}
-use Rattle.ns_machine_moves.specs.Turn.{is_still}
-use Rattle.ns_machine_moves.specs.Valid.{Valid}
+use Rattle.ns_moves.specs.Beginning.{NewIsValid, StartKeepsValid}
+use Rattle.ns_moves.specs.Doubling.{until}
+use Rattle.ns_moves.specs.Falling.{power_left}
+use Rattle.ns_moves.specs.Move.{move}
+use Rattle.ns_moves.specs.Starts.{started}
+use Rattle.ns_moves.specs.State.{Phase, Start, First, Second, Hosted, State, Unbegun, Going, Pends, Ended, Stuck, world_of}
+use Rattle.ns_moves.specs.Turn.{is_still}
+use Rattle.ns_moves.specs.Valid.{Valid}
 use Rattle.ns_resolved.specs.Program.{Meant}
 use Rattle.ns_run_code.specs.Laws.{CodeEnds, CodeRunsAsMeant, ComesToItsEnd}
 use Rattle.ns_run_code.specs.Machine.{begins_with, rested, told_at}

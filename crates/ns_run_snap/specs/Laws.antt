@@ -8,8 +8,8 @@ use Rattle.ns_frozen.specs.Freezing.{frozen_of}
 use Rattle.ns_gen_code.specs.Code.{code_of}
 use Rattle.ns_image.specs.Bytes.{bytes_of}
 use Rattle.ns_link.specs.Stated.{MayRun}
-use Rattle.ns_machine_moves.specs.State.{State}
-use Rattle.ns_machine_moves.specs.Valid.{Valid}
+use Rattle.ns_moves.specs.State.{State}
+use Rattle.ns_moves.specs.Valid.{Valid}
 use Rattle.ns_resolved.specs.Program.{Meant}
 use Rattle.ns_run_code.specs.Machine.{rested}
 use Rattle.ns_run_code.specs.Run.{granted, meant_run}

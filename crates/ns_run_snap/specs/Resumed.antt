@@ -2,8 +2,8 @@
 use Rattle.std.specs.Prelude.{ℕ, List, Result, Ok, Err}
 use Rattle.ns_code.specs.declared.program.CodeProgram.{CodeProgram}
 use Rattle.ns_frozen.specs.Thawing.{thawed}
-use Rattle.ns_machine_moves.specs.Starts.{started}
-use Rattle.ns_machine_moves.specs.State.{State}
+use Rattle.ns_moves.specs.Starts.{started}
+use Rattle.ns_moves.specs.State.{State}
 use Rattle.ns_run_code.specs.Machine.{rested, told_at}
 use Rattle.ns_run_code.specs.declared.run.Ran.{Ran}
 use Rattle.ns_run_snap.specs.declared.resume.ResumeFault.{ResumeFault}

@@ -6,7 +6,7 @@ use Rattle.ns_frozen.specs.Freezing.{frozen_of}
 use Rattle.ns_gen_code.specs.Code.{code_of}
 use Rattle.ns_gen_code.specs.Sizes.{size_fault}
 use Rattle.ns_gen_code.specs.declared.size.SizeKind.{SizeKind}
-use Rattle.ns_machine_moves.specs.State.{State}
+use Rattle.ns_moves.specs.State.{State}
 use Rattle.ns_resolved.specs.Program.{Meant}
 use Rattle.ns_run_code.specs.Machine.{begins_with}
 use Rattle.ns_run_code.specs.Run.{granted}

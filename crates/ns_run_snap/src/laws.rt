@@ -9,7 +9,7 @@ ghost use Rattle.ns_run_snap.specs.Laws.{ResumesAsMeant, TurnsGoOn};
 pub fn turns_go_on()
     ensures { (code : CodeProgram) (grants : Grants) → TurnsGoOn code grants }
 {
-    ns_machine_moves::valid_frames::moves_keep_valid();
+    ns_moves::valid_frames::moves_keep_valid();
     ns_run_code::laws::valid_runs_come_to_rest();
 }
 
@@ -19,8 +19,8 @@ pub fn snapshots_resume_as_meant()
     ensures { (meant : Meant) → ResumesAsMeant meant }
 {
     turns_go_on();
-    ns_machine_moves::valid_world::new_machines_are_valid();
-    ns_machine_moves::valid_world::opening_sends_are_valid();
+    ns_moves::valid_world::new_machines_are_valid();
+    ns_moves::valid_world::opening_sends_are_valid();
     ns_frozen::laws::states_thaw_back();
     ns_frozen::laws::valid_states_freeze();
     ns_snapshot::laws::written_snapshot_is_read();

@@ -7,8 +7,8 @@ ghost use Rattle.ns_snapshot.specs.declared.fault.SnapFault.{SnapFault as WhyNoS
 
 use ns_base::no_memory::NoMemory;
 use ns_machine::machine::Machine;
-use ns_machine_moves::valid_world::opening_sends_are_valid;
 use ns_machine_restore::restore::read_snap;
+use ns_moves::valid_world::opening_sends_are_valid;
 use ns_run_code::code::finished;
 use ns_run_code::laws::runs_end_at_rest;
 use ns_run_code::run::Ran;

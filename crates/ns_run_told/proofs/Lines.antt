@@ -5,7 +5,7 @@ use Rattle.ns_base.specs.declared.place.Place.{Place}
 use Rattle.ns_world.specs.declared.ending.Ending.TheVariants as ending
 use Rattle.ns_code.specs.Selector.{selector_text}
 use Rattle.ns_mirror.specs.Naming.{class_text}
-use Rattle.ns_actions.specs.Report.{kind_text, place_text}
+use Rattle.ns_moves.specs.Report.{kind_text, place_text}
 use Rattle.ns_run_told.specs.Laws.{LinesTellEnds, place_line}
 use Rattle.ns_run_told.specs.Told.{text_in, told_place}
 

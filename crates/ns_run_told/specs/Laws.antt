@@ -4,7 +4,7 @@ use Rattle.std.specs.Fmt.{decimal}
 use Rattle.ns_code.specs.declared.program.CodeProgram.{CodeProgram}
 use Rattle.ns_world.specs.declared.ending.Ending.{Ending}
 use Rattle.ns_world.specs.Heap.{Heap}
-use Rattle.ns_actions.specs.Report.{report_line}
+use Rattle.ns_moves.specs.Report.{report_line}
 use Rattle.ns_json.specs.declared.saying.End.{End}
 use Rattle.ns_json.specs.declared.saying.End.TheVariants.{Done, Error, Limit}
 use Rattle.ns_json.specs.declared.saying.FilePlace.{FilePlace}

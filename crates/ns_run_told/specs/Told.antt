@@ -12,8 +12,8 @@ use Rattle.ns_world.specs.declared.ending.RunError.{RunError}
 use Rattle.ns_world.specs.Heap.{Heap}
 use Rattle.ns_world.specs.World.{counters_of}
 use Rattle.ns_mirror.specs.Naming.{class_text}
-use Rattle.ns_actions.specs.Report.{kind_text, limit_text, value_text}
-use Rattle.ns_machine_moves.specs.State.{State, ending_of, world_of}
+use Rattle.ns_moves.specs.Report.{kind_text, limit_text, value_text}
+use Rattle.ns_moves.specs.State.{State, ending_of, world_of}
 use Rattle.ns_run_code.specs.Machine.{begins_with, end_of, rested}
 use Rattle.ns_json.specs.declared.saying.End.{End}
 use Rattle.ns_json.specs.declared.saying.End.TheVariants.{Done, Error, Limit}

@@ -3,7 +3,7 @@
 ghost use Rattle.std.specs.Prelude.{◌≡◌, ◌≤◌, [], IfOk, Some, length};
 ghost use Rattle.std.specs.List.{slice_index_or};
 ghost use Rattle.ns_machine_report.specs.Ending.{IsLiveEnding};
-ghost use Rattle.ns_machine_moves.specs.State.{world_of};
+ghost use Rattle.ns_moves.specs.State.{world_of};
 ghost use Rattle.ns_run_told.specs.Told as spec;
 ghost use Rattle.ns_world.specs.Heap.{Heap};
 ghost use Rattle.ns_world.specs.declared.ending.Ending.TheVariants as ending;

@@ -1,7 +1,7 @@
 //! The names of kinds of errors and of limits.
 
 ghost use Rattle.std.specs.Prelude.{◌≡◌};
-ghost use Rattle.ns_actions.specs.Report as spec;
+ghost use Rattle.ns_moves.specs.Report as spec;
 
 use ns_world::ending::{Kind, LimitKind};
 

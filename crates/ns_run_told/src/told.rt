@@ -3,7 +3,7 @@
 ghost use Rattle.std.specs.Prelude.{◌≡◌, IfOk};
 ghost use Rattle.ns_base.specs.Limits.{InRange};
 ghost use Rattle.ns_machine_report.specs.Ending.{IsLiveEnding};
-ghost use Rattle.ns_machine_moves.specs.State.{world_of};
+ghost use Rattle.ns_moves.specs.State.{world_of};
 ghost use Rattle.ns_run_code.specs.Machine.{machine_run};
 ghost use Rattle.ns_run_code.specs.Running.{HasAnEnd};
 ghost use Rattle.ns_run_told.specs.Told as spec;

@@ -8,10 +8,10 @@ use Rattle.ns_world.specs.declared.value.Value.TheVariants.{Nil, Ref}
 use Rattle.ns_world.specs.Cell.{Cell, cell_size}
 use Rattle.ns_world.specs.Heap.{heap_size}
 use Rattle.ns_world.specs.World.{made}
-use Rattle.ns_actions.specs.Control.{Progress, After, Gives, Halts, charged}
-use Rattle.ns_actions.specs.Start.{all_made, nothing_done, start_cells, start_made}
-use Rattle.ns_machine_moves.specs.State.{world_of}
-use Rattle.ns_machine_moves.specs.Starts.{started, unbegun}
+use Rattle.ns_moves.specs.Control.{Progress, After, Gives, Halts, charged}
+use Rattle.ns_moves.specs.Start.{all_made, nothing_done, start_cells, start_made}
+use Rattle.ns_moves.specs.State.{world_of}
+use Rattle.ns_moves.specs.Starts.{started, unbegun}
 use Rattle.ns_run_code.specs.Machine.{begins_with}
 use Rattle.ns_run_code.specs.Run.{granted}
 

@@ -3,15 +3,15 @@ use Rattle.std.proofs.Common.{◌≡◌, ℕ, zero, suc, ◌+◌, ◌-◌, ◌<�
 use Rattle.std.proofs.lemmas.Bool.{ltb-false}
 use Rattle.ns_code.specs.declared.program.CodeProgram.{CodeProgram}
 use Rattle.ns_facets.specs.declared.row.Grants.{Grants}
-use Rattle.ns_actions.specs.Control.{Progress}
-use Rattle.ns_machine_moves.specs.Charges.{ChargesAsTold, MoveTook, TakesAsTold, TookStep}
-use Rattle.ns_machine_moves.specs.Charging.{will_charge}
-use Rattle.ns_machine_moves.specs.Move.{move, moves}
-use Rattle.ns_machine_moves.specs.State.{State, progress_of, world_of}
-use Rattle.ns_machine_moves.specs.Stated.{TurnsLeaveOne}
-use Rattle.ns_machine_moves.specs.Turn.{charged_in, charges, ends_with_steps, is_still, one_if, Turns, was_charged}
-use Rattle.ns_machine_moves.specs.Valid.{Valid}
-use Rattle.ns_machine_moves.specs.laws.Still.{can_move}
+use Rattle.ns_moves.specs.Control.{Progress}
+use Rattle.ns_moves.specs.Charges.{ChargesAsTold, MoveTook, TakesAsTold, TookStep}
+use Rattle.ns_moves.specs.Charging.{will_charge}
+use Rattle.ns_moves.specs.Move.{move, moves}
+use Rattle.ns_moves.specs.State.{State, progress_of, world_of}
+use Rattle.ns_moves.specs.StatedMoves.{TurnsLeaveOne}
+use Rattle.ns_moves.specs.Turn.{charged_in, charges, ends_with_steps, is_still, one_if, Turns, was_charged}
+use Rattle.ns_moves.specs.Valid.{Valid}
+use Rattle.ns_moves.specs.laws.Still.{can_move}
 use Rattle.ns_run_code.specs.Machine.{rested}
 use Rattle.ns_run_trace.specs.Before.{before_end}
 use Rattle.ns_run_trace.specs.Laws.{IsBeforeEnd}

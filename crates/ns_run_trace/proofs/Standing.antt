@@ -6,10 +6,10 @@ use Rattle.ns_code.specs.Fits.{Fits}
 use Rattle.ns_code.specs.declared.program.CodeProgram.{CodeProgram}
 use Rattle.ns_verify.specs.Verify.{IsSound}
 use Rattle.ns_machine.specs.Machine.{MachineView}
-use Rattle.ns_machine_moves.specs.Beginning.{NewIsValid, StartKeepsValid}
-use Rattle.ns_machine_moves.specs.Move.{moves}
-use Rattle.ns_machine_moves.specs.Starts.{new_machine}
-use Rattle.ns_machine_moves.specs.State.{State, world_of}
+use Rattle.ns_moves.specs.Beginning.{NewIsValid, StartKeepsValid}
+use Rattle.ns_moves.specs.Move.{moves}
+use Rattle.ns_moves.specs.Starts.{new_machine}
+use Rattle.ns_moves.specs.State.{State, world_of}
 use Rattle.ns_run_code.specs.Machine.{begins_with, rested}
 use Rattle.ns_run_code.specs.Run.{granted}
 use Rattle.ns_run_trace.specs.Before.{before_end}

@@ -3,7 +3,7 @@ use Rattle.std.proofs.Common.{◌≡◌, ◌+◌, ◌-◌, ◌<◌, ◌≤◌, �
 use Rattle.std.proofs.lemmas.Bool.{le-ltb, lt-ltb}
 use Rattle.std.proofs.lemmas.List.{drop-map, length-map, take-map}
 use Rattle.ns_code.specs.declared.program.CodeProgram.{CodeProgram}
-use Rattle.ns_actions.specs.declared.site.Site.{Site as SendSite}
+use Rattle.ns_moves.specs.declared.site.Site.{Site as SendSite}
 use Rattle.ns_json.specs.declared.saying.Site.{Site}
 use Rattle.ns_json.specs.declared.saying.Trace.{Trace}
 use Rattle.ns_run_trace.specs.Trace.{most_told, shortened, told, trimmed, whole}

@@ -1,11 +1,11 @@
 -- The state before the move that ends a run.
 use Rattle.std.specs.Prelude.{Bool, if◌then◌else◌}
 use Rattle.ns_code.specs.declared.program.CodeProgram.{CodeProgram}
-use Rattle.ns_machine_moves.specs.Doubling.{until}
-use Rattle.ns_machine_moves.specs.Falling.{power_left}
-use Rattle.ns_machine_moves.specs.Move.{move}
-use Rattle.ns_machine_moves.specs.State.{State, world_of}
-use Rattle.ns_machine_moves.specs.Turn.{is_still}
+use Rattle.ns_moves.specs.Doubling.{until}
+use Rattle.ns_moves.specs.Falling.{power_left}
+use Rattle.ns_moves.specs.Move.{move}
+use Rattle.ns_moves.specs.State.{State, world_of}
+use Rattle.ns_moves.specs.Turn.{is_still}
 
 -- whether a run moves no more after the next move
 abbrev pub ends_next : CodeProgram → State → Bool

@@ -4,10 +4,10 @@ use Rattle.ns_code.specs.declared.program.CodeProgram.{CodeProgram}
 use Rattle.ns_facets.specs.declared.row.Grants.{Grants}
 use Rattle.ns_json.specs.declared.saying.End.{End}
 use Rattle.ns_json.specs.declared.saying.Site.{Site}
-use Rattle.ns_machine_moves.specs.Move.{move, moves}
-use Rattle.ns_machine_moves.specs.State.{State}
-use Rattle.ns_machine_moves.specs.Turn.{is_still}
-use Rattle.ns_machine_moves.specs.Valid.{Valid}
+use Rattle.ns_moves.specs.Move.{move, moves}
+use Rattle.ns_moves.specs.State.{State}
+use Rattle.ns_moves.specs.Turn.{is_still}
+use Rattle.ns_moves.specs.Valid.{Valid}
 use Rattle.ns_run_code.specs.Machine.{rested}
 use Rattle.ns_run_trace.specs.Before.{before_end}
 use Rattle.ns_run_trace.specs.Trace.{run_trace, sends_before, site_line, told_once}

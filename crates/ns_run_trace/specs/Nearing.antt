@@ -1,9 +1,9 @@
 -- How the state before the end is come to: a turn that leaves the last steps, and then single moves, counted once.
 use Rattle.std.specs.Prelude.{◌≡◌, ℕ, zero, suc, ◌+◌, true, false}
 use Rattle.ns_code.specs.declared.program.CodeProgram.{CodeProgram}
-use Rattle.ns_machine_moves.specs.Move.{moves}
-use Rattle.ns_machine_moves.specs.State.{State}
-use Rattle.ns_machine_moves.specs.Turn.{is_still, Turns}
+use Rattle.ns_moves.specs.Move.{moves}
+use Rattle.ns_moves.specs.State.{State}
+use Rattle.ns_moves.specs.Turn.{is_still, Turns}
 
 -- A run is near its end, which it comes to with so many steps: it has had a turn of all of them but one, where it uses any.
 abbrev pub IsNear : CodeProgram → ℕ → State → State → Type 0

@@ -6,13 +6,13 @@ use Rattle.ns_base.specs.declared.limits.Limits.{Limits}
 use Rattle.ns_code.specs.declared.program.CodeProgram.{CodeProgram}
 use Rattle.ns_code.specs.Selector.{selector_text}
 use Rattle.ns_mirror.specs.Naming.{class_text}
-use Rattle.ns_actions.specs.declared.site.Site.{Site as SendSite}
+use Rattle.ns_moves.specs.declared.site.Site.{Site as SendSite}
 use Rattle.ns_json.specs.declared.saying.End.{End}
 use Rattle.ns_json.specs.declared.saying.End.TheVariants.{Done, Error, Limit}
 use Rattle.ns_json.specs.declared.saying.Site.{Site}
 use Rattle.ns_json.specs.declared.saying.Trace.{Trace}
 use Rattle.ns_machine.specs.Sites.{sites_of}
-use Rattle.ns_machine_moves.specs.State.{State}
+use Rattle.ns_moves.specs.State.{State}
 use Rattle.ns_run_code.specs.Machine.{begins_with}
 use Rattle.ns_run_told.specs.Told.{code_told, told_place}
 use Rattle.ns_run_told.specs.Laws.{place_line}

@@ -9,10 +9,10 @@ ghost use Rattle.ns_run_trace.specs.Laws.{FirstIsTheCaller, RunsEndAfterIt, Trac
 pub fn runs_end_after_it()
     ensures { (code : CodeProgram) (grants : Grants) → RunsEndAfterIt code grants }
 {
-    ns_machine_moves::laws::moves_add();
-    ns_machine_moves::laws::ended_runs_stay();
-    ns_machine_moves::valid_frames::moves_keep_valid();
-    ns_machine_moves::falling::left_is_below_a_power();
+    ns_moves::move_laws::moves_add();
+    ns_moves::move_laws::ended_runs_stay();
+    ns_moves::valid_frames::moves_keep_valid();
+    ns_moves::falling::left_is_below_a_power();
     ns_run_code::laws::valid_runs_come_to_rest();
 }
 

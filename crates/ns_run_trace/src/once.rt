@@ -5,11 +5,11 @@ ghost use Rattle.ns_run_trace.specs.Trace as spec;
 
 use crate::lines::{MOST_TOLD, put_site};
 use crate::site::told;
-use ns_actions::site::Site as SendSite;
 use ns_base::items::Items;
 use ns_base::no_memory::NoMemory;
 use ns_code::program::CodeProgram;
 use ns_json::saying::{Site, Trace};
+use ns_moves::site::Site as SendSite;
 use std::alloc::Global;
 
 /// The trace of open sends, the innermost first: without those whose line is the one before it, which is this before the first.

@@ -3,12 +3,12 @@
 ghost use Rattle.std.specs.Prelude.{◌≡◌, IfOk};
 ghost use Rattle.ns_run_trace.specs.Trace as spec;
 
-use ns_actions::site::Site as SendSite;
 use ns_base::no_memory::NoMemory;
 use ns_base::text::Text;
 use ns_code::program::CodeProgram;
 use ns_json::saying::Site;
 use ns_machine_report::output::put_class;
+use ns_moves::site::Site as SendSite;
 use ns_run_told::end::told_place;
 use std::alloc::Global;
 

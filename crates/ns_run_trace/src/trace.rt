@@ -2,7 +2,7 @@
 
 ghost use Rattle.std.specs.Prelude.{◌≡◌, IfOk};
 ghost use Rattle.ns_base.specs.Limits.{InRange};
-ghost use Rattle.ns_machine_moves.specs.State.{world_of};
+ghost use Rattle.ns_moves.specs.State.{world_of};
 ghost use Rattle.ns_run_code.specs.Machine.{begins_with, rested};
 ghost use Rattle.ns_run_told.specs.Told.{code_told};
 ghost use Rattle.ns_run_trace.specs.Trace as spec;

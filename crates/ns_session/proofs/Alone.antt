@@ -6,14 +6,14 @@ use Rattle.ns_facets.specs.declared.row.Grants.{Grants}
 use Rattle.ns_resolved.specs.Program.{Meant}
 use Rattle.ns_resolved.specs.Tables.{tables}
 use Rattle.ns_model.specs.Whole.{ran}
-use Rattle.ns_machine_moves.specs.State.{State, Unbegun, Going, Pends, Ended, Stuck, world_of}
-use Rattle.ns_machine_moves.specs.Move.{moves}
-use Rattle.ns_machine_moves.specs.Starts.{new_machine, started}
-use Rattle.ns_machine_moves.specs.Turn.{is_still, charged_in, one_if, Turns}
-use Rattle.ns_machine_moves.specs.Stated.{MovesAdd, StaysStill, TurnsAdd}
-use Rattle.ns_machine_moves.specs.Onward.{MovesGoOnward}
-use Rattle.ns_machine_moves.specs.Valid.{Valid}
-use Rattle.ns_machine_moves.specs.laws.Still.{moves_on}
+use Rattle.ns_moves.specs.State.{State, Unbegun, Going, Pends, Ended, Stuck, world_of}
+use Rattle.ns_moves.specs.Move.{moves}
+use Rattle.ns_moves.specs.Starts.{new_machine, started}
+use Rattle.ns_moves.specs.Turn.{is_still, charged_in, one_if, Turns}
+use Rattle.ns_moves.specs.StatedMoves.{MovesAdd, StaysStill, TurnsAdd}
+use Rattle.ns_moves.specs.MovesOnward.{MovesGoOnward}
+use Rattle.ns_moves.specs.Valid.{Valid}
+use Rattle.ns_moves.specs.laws.Still.{moves_on}
 use Rattle.ns_link.specs.Stated.{IsOnTheWay, TurnsAreOnTheWay}
 use Rattle.ns_session.specs.Member.{Application, start_of, taken, IsAlone}
 use Rattle.ns_session.specs.Laws.{ComesToRest, ComesToLast, SourceLeads}

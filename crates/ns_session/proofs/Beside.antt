@@ -1,8 +1,8 @@
 -- The turn of an application beside a shared board is a function.
 use Rattle.std.proofs.Common.{◌≡◌, ℕ, ap, ◌∙◌, Bool, true, false}
 use Rattle.ns_facets.specs.declared.board.Board.{Board}
-use Rattle.ns_machine_moves.specs.State.{State, swapped}
-use Rattle.ns_machine_moves.specs.WorldStays.{SwapsKeepValid}
+use Rattle.ns_moves.specs.State.{State, swapped}
+use Rattle.ns_moves.specs.WorldStays.{SwapsKeepValid}
 use Rattle.ns_session.specs.Member.{Application, TurnOf, board_of}
 use Rattle.ns_session.specs.Reached.{StateIsReached}
 use Rattle.ns_session.specs.RobinLaws.{TurnsAreTurned, TurnsAreTurnedBeside}

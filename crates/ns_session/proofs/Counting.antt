@@ -2,16 +2,16 @@
 use Rattle.std.proofs.Common.{◌≡◌, ℕ, zero, suc, ◌+◌, ◌-◌, ◌≤◌, refl, ap, sym, subst, inl, inr, arith, Bool, true, false, if◌then◌else◌}
 use Rattle.ns_code.specs.declared.program.CodeProgram.{CodeProgram}
 use Rattle.ns_facets.specs.declared.row.Grants.{Grants}
-use Rattle.ns_actions.specs.Control.{Progress}
-use Rattle.ns_machine_moves.specs.State.{State, progress_of, world_of}
-use Rattle.ns_machine_moves.specs.Move.{move, moves}
-use Rattle.ns_machine_moves.specs.Turn.{is_still, ends_with_steps, charges, one_if, charged_in, Turns}
-use Rattle.ns_machine_moves.specs.Charging.{will_charge}
-use Rattle.ns_machine_moves.specs.Charges.{MoveTook, TakesAsTold, ChargesAsTold}
-use Rattle.ns_machine_moves.specs.Stated.{StaysStill}
-use Rattle.ns_machine_moves.specs.Standing.{MovesKeepValid}
-use Rattle.ns_machine_moves.specs.Valid.{Valid}
-use Rattle.ns_machine_moves.specs.laws.Still.{limited_still, moves_on, none_charged, can_move}
+use Rattle.ns_moves.specs.Control.{Progress}
+use Rattle.ns_moves.specs.State.{State, progress_of, world_of}
+use Rattle.ns_moves.specs.Move.{move, moves}
+use Rattle.ns_moves.specs.Turn.{is_still, ends_with_steps, charges, one_if, charged_in, Turns}
+use Rattle.ns_moves.specs.Charging.{will_charge}
+use Rattle.ns_moves.specs.Charges.{MoveTook, TakesAsTold, ChargesAsTold}
+use Rattle.ns_moves.specs.StatedMoves.{StaysStill}
+use Rattle.ns_moves.specs.Standing.{MovesKeepValid}
+use Rattle.ns_moves.specs.Valid.{Valid}
+use Rattle.ns_moves.specs.laws.Still.{limited_still, moves_on, none_charged, can_move}
 use Rattle.ns_session.specs.Member.{taken}
 
 -- ---- states

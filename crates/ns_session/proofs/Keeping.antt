@@ -4,7 +4,7 @@ use Rattle.ns_base.specs.declared.limits.Limits.{Limits}
 use Rattle.ns_world.specs.declared.ending.Ending.{Ending}
 use Rattle.ns_facets.specs.declared.board.Board.{Board}
 use Rattle.ns_facets.specs.declared.row.Grants.{Grants}
-use Rattle.ns_machine_moves.specs.State.{State, ending_of}
+use Rattle.ns_moves.specs.State.{State, ending_of}
 use Rattle.ns_machine.specs.Machine.{MachineView}
 use Rattle.ns_session.specs.Member.{Application, MayStart, start_of, IsAlone, KeepsAlone, TurnOf}
 use Rattle.ns_session.specs.Kept.{member_shown, IsMember}

@@ -7,9 +7,9 @@ use Rattle.std.proofs.lemmas.List.{length-set, length-append, map-append, length
 use Rattle.std.proofs.lemmas.Option.{slice_get-map, same_Some}
 use Rattle.ns_code.specs.declared.program.CodeProgram.{CodeProgram}
 use Rattle.ns_facets.specs.declared.board.Board.{Board}
-use Rattle.ns_machine_moves.specs.State.{State}
-use Rattle.ns_machine_moves.specs.Turn.{Turns}
-use Rattle.ns_machine_moves.specs.Stated.{TurnsAdd, TurnsLeaveOne}
+use Rattle.ns_moves.specs.State.{State}
+use Rattle.ns_moves.specs.Turn.{Turns}
+use Rattle.ns_moves.specs.StatedMoves.{TurnsAdd, TurnsLeaveOne}
 use Rattle.ns_session.specs.Member.{Application, MemberView, start_of, starting, taken, IsAlone, TurnOf}
 use Rattle.ns_session.specs.Session.{SessionView, Pair, PlaysAt, Plays, added}
 use Rattle.ns_session.specs.Play.{opened, Played, steps_for, given}

@@ -7,15 +7,15 @@ use Rattle.ns_code.specs.declared.program.CodeProgram.{CodeProgram}
 use Rattle.ns_facets.specs.declared.row.Grants.{Grants}
 use Rattle.ns_facets.specs.declared.board.Board.{Board}
 use Rattle.ns_world.specs.declared.ending.Ending.{Ending}
-use Rattle.ns_machine_moves.specs.State.{State, Unbegun, Going, Pends, Ended, Stuck, world_of, ending_of, swapped}
-use Rattle.ns_machine_moves.specs.Move.{moves}
-use Rattle.ns_machine_moves.specs.Turn.{is_still, charged_in, one_if, Turns}
-use Rattle.ns_machine_moves.specs.Onward.{MovesGoOnward}
-use Rattle.ns_machine_moves.specs.Standing.{MovesKeepValid}
-use Rattle.ns_machine_moves.specs.WorldStays.{SwapsKeepValid}
-use Rattle.ns_machine_moves.specs.Valid.{Valid}
-use Rattle.ns_machine_moves.specs.laws.Still.{moves_on}
-use Rattle.ns_actions.specs.Start.{start_made}
+use Rattle.ns_moves.specs.State.{State, Unbegun, Going, Pends, Ended, Stuck, world_of, ending_of, swapped}
+use Rattle.ns_moves.specs.Move.{moves}
+use Rattle.ns_moves.specs.Turn.{is_still, charged_in, one_if, Turns}
+use Rattle.ns_moves.specs.MovesOnward.{MovesGoOnward}
+use Rattle.ns_moves.specs.Standing.{MovesKeepValid}
+use Rattle.ns_moves.specs.WorldStays.{SwapsKeepValid}
+use Rattle.ns_moves.specs.Valid.{Valid}
+use Rattle.ns_moves.specs.laws.Still.{moves_on}
+use Rattle.ns_moves.specs.Start.{start_made}
 use Rattle.ns_session.specs.Member.{Application, MemberView, start_of, taken, board_of, TurnOf}
 use Rattle.ns_session.specs.Reached.{HasBegun, StateIsReached, left_by, left_for, left_of}
 use Rattle.ns_session.specs.Laws.{TurnsReach, TurnsLower}

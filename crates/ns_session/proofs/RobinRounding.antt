@@ -5,7 +5,7 @@ use Rattle.std.specs.Option.{is_some}
 use Rattle.std.proofs.lemmas.List.{length-set}
 use Rattle.std.proofs.lemmas.Option.{same_Some, slice_get_within}
 use Rattle.ns_facets.specs.declared.board.Board.{Board}
-use Rattle.ns_machine_moves.specs.State.{State, ending_of}
+use Rattle.ns_moves.specs.State.{State, ending_of}
 use Rattle.ns_session.specs.Laws.{StartsReached, TurnsLower, TurnsReach}
 use Rattle.ns_session.specs.Member.{Application, MemberView, starting}
 use Rattle.ns_session.specs.Play.{opened}

@@ -1,7 +1,7 @@
 -- Rounds, turn by turn.
 use Rattle.std.proofs.Common.{◌≡◌, ℕ, zero, suc, ◌+◌, ◌-◌, ◌<◌, ◌≤◌, length, refl, ap, sym, ◌∙◌, subst, inl, inr, ◌⊎◌, ◌||◌, List, Some, None, arith, Bool, true, false, IsSome}
 use Rattle.std.specs.Prelude.{slice_get, slice_set}
-use Rattle.ns_machine_moves.specs.State.{ending_of}
+use Rattle.ns_moves.specs.State.{ending_of}
 use Rattle.ns_session.specs.Member.{MemberView}
 use Rattle.ns_session.specs.Reached.{left_for, left_of}
 use Rattle.ns_session.specs.Session.{SessionView, ending_in}

@@ -9,15 +9,15 @@ use Rattle.ns_world.specs.declared.ending.LimitKind.TheVariants.{Cells}
 use Rattle.ns_world.specs.Cell.{Cell, cell_size}
 use Rattle.ns_world.specs.Heap.{heap_size}
 use Rattle.ns_world.specs.World.{World, made}
-use Rattle.ns_actions.specs.Control.{Progress, in_world, After, Gives, Halts, charged}
-use Rattle.ns_actions.specs.Start.{start_cells, nothing_done, all_made, start_made}
-use Rattle.ns_machine_moves.specs.State.{State, world_of}
-use Rattle.ns_machine_moves.specs.Starts.{new_machine, unbegun, started}
-use Rattle.ns_machine_moves.specs.Beginning.{NewIsValid, StartKeepsValid}
-use Rattle.ns_machine_moves.specs.Turn.{is_still, one_if}
-use Rattle.ns_machine_moves.specs.Charging.{will_charge}
-use Rattle.ns_machine_moves.specs.Valid.{Valid}
-use Rattle.ns_machine_moves.specs.laws.Still.{can_move, moves_on}
+use Rattle.ns_moves.specs.Control.{Progress, in_world, After, Gives, Halts, charged}
+use Rattle.ns_moves.specs.Start.{start_cells, nothing_done, all_made, start_made}
+use Rattle.ns_moves.specs.State.{State, world_of}
+use Rattle.ns_moves.specs.Starts.{new_machine, unbegun, started}
+use Rattle.ns_moves.specs.Beginning.{NewIsValid, StartKeepsValid}
+use Rattle.ns_moves.specs.Turn.{is_still, one_if}
+use Rattle.ns_moves.specs.Charging.{will_charge}
+use Rattle.ns_moves.specs.Valid.{Valid}
+use Rattle.ns_moves.specs.laws.Still.{can_move, moves_on}
 use Rattle.ns_session.specs.Member.{Application, MayStart, start_of, taken, IsAlone}
 use Rattle.ns_session.proofs.Counting.{Known, used}
 

@@ -1,7 +1,7 @@
 -- What another board leaves of a state.
 use Rattle.std.proofs.Common.{◌≡◌, refl}
 use Rattle.ns_facets.specs.declared.board.Board.{Board}
-use Rattle.ns_machine_moves.specs.State.{State, Unbegun, Going, Pends, Ended, Stuck, swapped}
+use Rattle.ns_moves.specs.State.{State, Unbegun, Going, Pends, Ended, Stuck, swapped}
 use Rattle.ns_machine.specs.Turned.{turn_at}
 
 -- what a turn answers is the same

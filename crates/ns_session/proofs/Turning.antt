@@ -3,15 +3,15 @@ use Rattle.std.proofs.Common.{◌≡◌, ℕ, zero, suc, ◌+◌, ◌^◌, ◌�
 use Rattle.std.proofs.lemmas.Bool.{eqb-true}
 use Rattle.ns_code.specs.declared.program.CodeProgram.{CodeProgram}
 use Rattle.ns_facets.specs.declared.row.Grants.{Grants}
-use Rattle.ns_machine_moves.specs.Doubling.{StepsLead, times, until}
-use Rattle.ns_machine_moves.specs.Falling.{LeftIsBelowPower, MovesLower, power_left, run_left}
-use Rattle.ns_machine_moves.specs.laws.Doubling.{leads}
-use Rattle.ns_machine_moves.specs.Stated.{TurnsLeaveOne}
-use Rattle.ns_machine_moves.specs.Move.{move}
-use Rattle.ns_machine_moves.specs.Standing.{MovesKeepValid}
-use Rattle.ns_machine_moves.specs.State.{State, world_of}
-use Rattle.ns_machine_moves.specs.Turn.{is_still, charges, charged_in, one_if, Turns}
-use Rattle.ns_machine_moves.specs.Valid.{Valid}
+use Rattle.ns_moves.specs.Doubling.{StepsLead, times, until}
+use Rattle.ns_moves.specs.Falling.{LeftIsBelowPower, MovesLower, power_left, run_left}
+use Rattle.ns_moves.specs.laws.Doubling.{leads}
+use Rattle.ns_moves.specs.StatedMoves.{TurnsLeaveOne}
+use Rattle.ns_moves.specs.Move.{move}
+use Rattle.ns_moves.specs.Standing.{MovesKeepValid}
+use Rattle.ns_moves.specs.State.{State, world_of}
+use Rattle.ns_moves.specs.Turn.{is_still, charges, charged_in, one_if, Turns}
+use Rattle.ns_moves.specs.Valid.{Valid}
 use Rattle.ns_session.specs.RobinLaws.{TurnsAreTurned}
 use Rattle.ns_session.specs.Turned.{TurnUnderway, is_over, moved_on, steps_behind, turned}
 

@@ -3,7 +3,7 @@ use Rattle.std.specs.Prelude.{◌≡◌, Option}
 use Rattle.ns_base.specs.declared.limits.Limits.{Limits}
 use Rattle.ns_world.specs.declared.ending.Ending.{Ending}
 use Rattle.ns_facets.specs.declared.row.Grants.{Grants}
-use Rattle.ns_machine_moves.specs.State.{ending_of}
+use Rattle.ns_moves.specs.State.{ending_of}
 use Rattle.ns_machine.specs.Machine.{MachineView}
 use Rattle.ns_session.specs.Member.{MemberView, MayStart, StandsAlone}
 use Rattle.ns_session.specs.Reached.{StateIsReached}

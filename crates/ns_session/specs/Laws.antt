@@ -6,9 +6,9 @@ use Rattle.ns_resolved.specs.Tables.{tables}
 use Rattle.ns_gen_code.specs.Code.{code_of}
 use Rattle.ns_model.specs.Whole.{ran}
 use Rattle.ns_facets.specs.declared.board.Board.{Board}
-use Rattle.ns_machine_moves.specs.State.{State, ending_of, world_of}
-use Rattle.ns_machine_moves.specs.Move.{moves}
-use Rattle.ns_machine_moves.specs.Turn.{Turns, is_still}
+use Rattle.ns_moves.specs.State.{State, ending_of, world_of}
+use Rattle.ns_moves.specs.Move.{moves}
+use Rattle.ns_moves.specs.Turn.{Turns, is_still}
 use Rattle.ns_link.specs.Stated.{HasFirst, IsOnTheWay}
 use Rattle.ns_session.specs.Member.{Application, MayStart, start_of, IsAlone, TurnOf}
 use Rattle.ns_session.specs.Reached.{HasBegun, StateIsReached, left_for}

@@ -3,14 +3,14 @@ use Rattle.std.specs.Prelude.{◌≡◌, ℕ, ◌+◌, List, [], Option, option_
 use Rattle.ns_base.specs.Limits.{InRange}
 use Rattle.ns_code.specs.Fits.{Fits}
 use Rattle.ns_verify.specs.Verify.{IsSound}
-use Rattle.ns_actions.specs.Report.{report_line}
+use Rattle.ns_moves.specs.Report.{report_line}
 use Rattle.ns_base.specs.declared.limits.Limits.{Limits}
 use Rattle.ns_code.specs.declared.program.CodeProgram.{CodeProgram}
 use Rattle.ns_facets.specs.declared.row.Grants.{Grants}
 use Rattle.ns_facets.specs.declared.board.Board.{Board}
-use Rattle.ns_machine_moves.specs.State.{State, progress_of, world_of, ending_of, swapped}
-use Rattle.ns_machine_moves.specs.Starts.{new_machine, started}
-use Rattle.ns_machine_moves.specs.Turn.{Turns, ends_with_steps, one_if}
+use Rattle.ns_moves.specs.State.{State, progress_of, world_of, ending_of, swapped}
+use Rattle.ns_moves.specs.Starts.{new_machine, started}
+use Rattle.ns_moves.specs.Turn.{Turns, ends_with_steps, one_if}
 
 -- what an application is: its code, the facets that it is granted, and its limits
 pub record Application : Type 0 where

@@ -1,6 +1,6 @@
 -- What it means to play a schedule.
 use Rattle.std.specs.Prelude.{◌≡◌, ℕ, ◌+◌, ◌==◌, List, [], ◌∷◌, map, if◌then◌else◌}
-use Rattle.ns_actions.specs.Start.{new_board}
+use Rattle.ns_moves.specs.Start.{new_board}
 use Rattle.ns_session.specs.Member.{Application, starting}
 use Rattle.ns_session.specs.Session.{SessionView, Pair, Plays}
 

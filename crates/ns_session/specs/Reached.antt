@@ -1,8 +1,8 @@
 -- The states that an application of a session reaches, in whatever turns, and how much it can still do.
 use Rattle.std.specs.Prelude.{◌≡◌, ◌+◌, ◌-◌, ℕ, suc, List, [], ◌∷◌, Option, Some, None}
 use Rattle.ns_world.specs.declared.ending.Ending.{Ending}
-use Rattle.ns_machine_moves.specs.State.{State, Unbegun, Going, Pends, Ended, Stuck, ending_of, world_of}
-use Rattle.ns_machine_moves.specs.Valid.{Valid}
+use Rattle.ns_moves.specs.State.{State, Unbegun, Going, Pends, Ended, Stuck, ending_of, world_of}
+use Rattle.ns_moves.specs.Valid.{Valid}
 use Rattle.ns_session.specs.Member.{Application, MemberView}
 
 -- A run has begun.

@@ -2,7 +2,7 @@
 use Rattle.std.specs.Prelude.{ℕ, zero, suc, ◌+◌, ◌&&◌, List, [], ◌∷◌, Bool, true, Option, Some, None, length, slice_get, slice_set, if◌then◌else◌}
 use Rattle.std.specs.Option.{is_some}
 use Rattle.ns_world.specs.declared.ending.Ending.{Ending}
-use Rattle.ns_machine_moves.specs.State.{ending_of}
+use Rattle.ns_moves.specs.State.{ending_of}
 use Rattle.ns_session.specs.Member.{Application, MemberView}
 use Rattle.ns_session.specs.Play.{opened}
 use Rattle.ns_session.specs.Reached.{left_of}

@@ -3,9 +3,9 @@ use Rattle.std.specs.Prelude.{◌≡◌, ◌≤◌, ℕ, Bool, List, Some, slice
 use Rattle.ns_code.specs.declared.program.CodeProgram.{CodeProgram}
 use Rattle.ns_facets.specs.declared.board.Board.{Board}
 use Rattle.ns_facets.specs.declared.row.Grants.{Grants}
-use Rattle.ns_machine_moves.specs.State.{State}
-use Rattle.ns_machine_moves.specs.Turn.{Turns}
-use Rattle.ns_machine_moves.specs.Valid.{Valid}
+use Rattle.ns_moves.specs.State.{State}
+use Rattle.ns_moves.specs.Turn.{Turns}
+use Rattle.ns_moves.specs.Valid.{Valid}
 use Rattle.ns_session.specs.Member.{Application, MemberView, MayStart, TurnOf}
 use Rattle.ns_session.specs.Play.{opened}
 use Rattle.ns_session.specs.Reached.{StateIsReached}

@@ -2,7 +2,7 @@
 use Rattle.std.specs.Prelude.{◌≡◌, ◌≢◌, ℕ, List, [], ◌∷◌, ◌++◌, Option, Some, None, slice_get, slice_set, false}
 use Rattle.ns_world.specs.declared.ending.Ending.{Ending}
 use Rattle.ns_facets.specs.declared.board.Board.{Board}
-use Rattle.ns_machine_moves.specs.State.{State, ending_of}
+use Rattle.ns_moves.specs.State.{State, ending_of}
 use Rattle.ns_machine.specs.declared.stage.Turn.{Turn}
 use Rattle.ns_machine.specs.Turned.{turn_at}
 use Rattle.ns_session.specs.Member.{Application, MemberView, starting, TurnOf, StandsAlone, report_of, line_of}

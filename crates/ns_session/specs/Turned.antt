@@ -2,11 +2,11 @@
 use Rattle.std.specs.Prelude.{ℕ, ◌-◌, ◌==◌, ◌&&◌, ◌||◌, Bool, true, false, if◌then◌else◌}
 use Rattle.ns_code.specs.declared.program.CodeProgram.{CodeProgram}
 use Rattle.ns_facets.specs.declared.board.Board.{Board}
-use Rattle.ns_machine_moves.specs.Doubling.{until}
-use Rattle.ns_machine_moves.specs.Falling.{power_left}
-use Rattle.ns_machine_moves.specs.Move.{move}
-use Rattle.ns_machine_moves.specs.State.{State, swapped, world_of}
-use Rattle.ns_machine_moves.specs.Turn.{is_still, charges}
+use Rattle.ns_moves.specs.Doubling.{until}
+use Rattle.ns_moves.specs.Falling.{power_left}
+use Rattle.ns_moves.specs.Move.{move}
+use Rattle.ns_moves.specs.State.{State, swapped, world_of}
+use Rattle.ns_moves.specs.Turn.{is_still, charges}
 use Rattle.ns_session.specs.Member.{board_of}
 
 -- where a turn stands: the steps that are left of it, and the run

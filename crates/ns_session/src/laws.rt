@@ -11,23 +11,23 @@ ghost use Rattle.ns_session.specs.Laws.{StartsReached, TurnsReach, BegunStays, T
 pub fn applications_start_alone()
     ensures { (application : Application) → StartsAlone application }
 {
-    ns_machine_moves::laws::ended_runs_stay();
-    ns_machine_moves::laws::moves_charge_as_told();
-    ns_machine_moves::valid_world::new_machines_are_valid();
-    ns_machine_moves::valid_world::opening_sends_are_valid();
-    ns_machine_moves::valid_frames::moves_keep_valid();
+    ns_moves::move_laws::ended_runs_stay();
+    ns_moves::move_laws::moves_charge_as_told();
+    ns_moves::valid_world::new_machines_are_valid();
+    ns_moves::valid_world::opening_sends_are_valid();
+    ns_moves::valid_frames::moves_keep_valid();
 }
 
 /// A turn without the board leads on in the application's run on its own, whatever turns others had before.
 pub fn turns_stay_alone()
     ensures { (application : Application) → TurnsStayAlone application }
 {
-    ns_machine_moves::laws::turns_add();
-    ns_machine_moves::laws::ended_runs_stay();
-    ns_machine_moves::laws::moves_charge_as_told();
-    ns_machine_moves::valid_world::new_machines_are_valid();
-    ns_machine_moves::valid_world::opening_sends_are_valid();
-    ns_machine_moves::valid_frames::moves_keep_valid();
+    ns_moves::move_laws::turns_add();
+    ns_moves::move_laws::ended_runs_stay();
+    ns_moves::move_laws::moves_charge_as_told();
+    ns_moves::valid_world::new_machines_are_valid();
+    ns_moves::valid_world::opening_sends_are_valid();
+    ns_moves::valid_frames::moves_keep_valid();
 }
 
 /// So an application without the board that has ended has the ending and the transcript of its run on its own, and one that
@@ -35,21 +35,21 @@ pub fn turns_stay_alone()
 pub fn applications_keep_to_themselves()
     ensures { (application : Application) → AloneLeads application }
 {
-    ns_machine_moves::laws::moves_add();
-    ns_machine_moves::laws::ended_runs_stay();
-    ns_machine_moves::laws::moves_go_onward();
+    ns_moves::move_laws::moves_add();
+    ns_moves::move_laws::ended_runs_stay();
+    ns_moves::move_laws::moves_go_onward();
 }
 
 /// The run of an application on its own comes to rest in a turn of more steps than its limit.
 pub fn long_turns_rest()
     ensures { (application : Application) → LongTurnsRest application }
 {
-    ns_machine_moves::laws::ended_runs_stay();
-    ns_machine_moves::laws::moves_charge_as_told();
-    ns_machine_moves::laws::moves_go_onward();
-    ns_machine_moves::valid_world::new_machines_are_valid();
-    ns_machine_moves::valid_world::opening_sends_are_valid();
-    ns_machine_moves::valid_frames::moves_keep_valid();
+    ns_moves::move_laws::ended_runs_stay();
+    ns_moves::move_laws::moves_charge_as_told();
+    ns_moves::move_laws::moves_go_onward();
+    ns_moves::valid_world::new_machines_are_valid();
+    ns_moves::valid_world::opening_sends_are_valid();
+    ns_moves::valid_frames::moves_keep_valid();
 }
 
 /// In whatever turns, with the board or without, an application stands in a valid state of a run that has begun, within its
@@ -58,11 +58,11 @@ pub fn applications_stay_in_reach()
     ensures start { (application : Application) → StartsReached application }
     ensures turns { (application : Application) → TurnsReach application }
 {
-    ns_machine_moves::laws::moves_go_onward();
-    ns_machine_moves::valid_world::new_machines_are_valid();
-    ns_machine_moves::valid_world::opening_sends_are_valid();
-    ns_machine_moves::valid_world::swaps_keep_valid();
-    ns_machine_moves::valid_frames::moves_keep_valid();
+    ns_moves::move_laws::moves_go_onward();
+    ns_moves::valid_world::new_machines_are_valid();
+    ns_moves::valid_world::opening_sends_are_valid();
+    ns_moves::valid_world::swaps_keep_valid();
+    ns_moves::valid_frames::moves_keep_valid();
 }
 
 /// A run that has begun stays so.
@@ -74,11 +74,11 @@ pub fn begun_runs_stay_begun()
 pub fn turns_use_steps_up()
     ensures { (application : Application) → TurnsLower application }
 {
-    ns_machine_moves::laws::ended_runs_stay();
-    ns_machine_moves::laws::moves_charge_as_told();
-    ns_machine_moves::laws::moves_go_onward();
-    ns_machine_moves::valid_world::swaps_keep_valid();
-    ns_machine_moves::valid_frames::moves_keep_valid();
+    ns_moves::move_laws::ended_runs_stay();
+    ns_moves::move_laws::moves_charge_as_told();
+    ns_moves::move_laws::moves_go_onward();
+    ns_moves::valid_world::swaps_keep_valid();
+    ns_moves::valid_frames::moves_keep_valid();
 }
 
 /// Where its code is that of a program, this is what the program means.
@@ -101,5 +101,5 @@ pub fn equal_steps_agree()
     ensures { (application : Application) → EqualStepsAgree application }
 {
     applications_start_alone();
-    ns_machine_moves::laws::turns_add();
+    ns_moves::move_laws::turns_add();
 }

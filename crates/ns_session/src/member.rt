@@ -3,7 +3,7 @@
 ghost use Rattle.std.specs.Prelude.{◌≡◌, ◌≤◌, ◌<◌, None, IfOk, option_map};
 ghost use Rattle.std.specs.Option.{option_copied};
 ghost use Rattle.ns_base.specs.Limits.{InRange};
-ghost use Rattle.ns_machine_moves.specs.State.{ending_of};
+ghost use Rattle.ns_moves.specs.State.{ending_of};
 ghost use Rattle.ns_machine.specs.Turned.{turn_at};
 ghost use Rattle.ns_session.specs.Kept.{machine_of};
 ghost use Rattle.ns_session.specs.Member.{starting, transcript_of, report_of, line_of, TurnOf, LentTurn, OwnTurn, StandsAlone};

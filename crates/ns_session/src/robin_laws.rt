@@ -11,20 +11,20 @@ ghost use Rattle.ns_session.specs.RobinLaws.{TurnsAreMade, TurnsAreTurned, Turns
 pub fn turns_are_a_function()
     ensures { (code : CodeProgram) (grants : Grants) → TurnsAreTurned code grants }
 {
-    ns_machine_moves::laws::turns_add();
-    ns_machine_moves::valid_frames::moves_keep_valid();
-    ns_machine_moves::falling::moves_lower();
-    ns_machine_moves::falling::left_is_below_a_power();
+    ns_moves::move_laws::turns_add();
+    ns_moves::valid_frames::moves_keep_valid();
+    ns_moves::falling::moves_lower();
+    ns_moves::falling::left_is_below_a_power();
 }
 
 /// And what the function gives some turn leaves.
 pub fn turns_are_made()
     ensures { (code : CodeProgram) (grants : Grants) → TurnsAreMade code grants }
 {
-    ns_machine_moves::laws::turns_add();
-    ns_machine_moves::valid_frames::moves_keep_valid();
-    ns_machine_moves::falling::moves_lower();
-    ns_machine_moves::falling::left_is_below_a_power();
+    ns_moves::move_laws::turns_add();
+    ns_moves::valid_frames::moves_keep_valid();
+    ns_moves::falling::moves_lower();
+    ns_moves::falling::left_is_below_a_power();
 }
 
 /// So is the turn of an application, with the shared board or without it.
@@ -32,7 +32,7 @@ pub fn turns_beside_a_board_are_a_function()
     ensures { (application : Application) → TurnsAreTurnedBeside application }
 {
     turns_are_a_function();
-    ns_machine_moves::valid_world::swaps_keep_valid();
+    ns_moves::valid_world::swaps_keep_valid();
 }
 
 /// The round robin of applications that stand where turns lead is a function of them.

@@ -2,7 +2,7 @@
 use Rattle.std.proofs.Common.{◌≡◌, ℕ, zero, suc, ◌+◌, List, [], ◌∷◌, length, map, refl, ap, sym, ◌∙◌, true, false, Option, Some, None, cond}
 use Rattle.std.specs.Prelude.{slice_get, slice_set}
 use Rattle.std.proofs.lemmas.Option.{same_Some}
-use Rattle.ns_machine_moves.specs.State.{State, ending_of}
+use Rattle.ns_moves.specs.State.{State, ending_of}
 use Rattle.ns_session.specs.Member.{Application, MemberView, starting}
 use Rattle.ns_session.specs.Play.{opened}
 use Rattle.ns_session.specs.Reached.{left_of}

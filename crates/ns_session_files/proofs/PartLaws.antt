@@ -7,7 +7,7 @@ use Rattle.ns_base.specs.declared.no_memory.NoMemory.{NoMemory}
 use Rattle.ns_base.specs.declared.limits.Limits.{Limits}
 use Rattle.ns_json.specs.declared.saying.Run.{Run}
 use Rattle.ns_machine.specs.Machine.{MachineView}
-use Rattle.ns_machine_moves.specs.State.{ending_of}
+use Rattle.ns_moves.specs.State.{ending_of}
 use Rattle.ns_run_code.specs.Running.{HasAnEnd}
 use Rattle.ns_run_told.specs.Told.{run_told}
 use Rattle.ns_session.specs.Kept.{machine_of}

@@ -7,8 +7,8 @@ use Rattle.ns_run_code.specs.Run.{ran_of}
 use Rattle.ns_link.specs.Stated.{IsOnTheWay, ReportedAsMeant}
 use Rattle.ns_resolved.specs.Tables.{tables}
 use Rattle.ns_model.specs.Whole.{RunEnd, meaning_of_run, ran}
-use Rattle.ns_machine_moves.specs.State.{State, Ended, Unbegun, Going, Pends, Stuck, ending_of}
-use Rattle.ns_machine_moves.specs.Turn.{is_still}
+use Rattle.ns_moves.specs.State.{State, Ended, Unbegun, Going, Pends, Stuck, ending_of}
+use Rattle.ns_moves.specs.Turn.{is_still}
 use Rattle.ns_session.specs.Laws.{SourceLeads}
 use Rattle.ns_session.specs.Member.{KeepsAlone, MemberView}
 use Rattle.ns_session_files.specs.Joint.{run_of}

@@ -7,7 +7,7 @@ use Rattle.ns_base.specs.Limits.{InRange}
 use Rattle.ns_base.specs.declared.limits.Limits.{Limits}
 use Rattle.ns_base.specs.declared.status.Status.{Status}
 use Rattle.ns_base.specs.declared.status.Status.TheVariants.{Done, ProgramError, Refused, Limit, ReadFault, WriteFault, Memory}
-use Rattle.ns_machine_moves.specs.State.{ending_of}
+use Rattle.ns_moves.specs.State.{ending_of}
 use Rattle.ns_session.specs.Member.{MayStart, MemberView, StandsAlone}
 use Rattle.ns_session.specs.Rounds.{HaveEnded}
 use Rattle.ns_session.specs.Session.{SessionView, ending_in}

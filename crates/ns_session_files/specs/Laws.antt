@@ -2,7 +2,7 @@
 use Rattle.std.specs.Prelude.{◌≡◌, ℕ, List, map, IsSome}
 use Rattle.ns_base.specs.declared.limits.Limits.{Limits}
 use Rattle.ns_json.specs.declared.saying.Run.{Run}
-use Rattle.ns_machine_moves.specs.State.{ending_of}
+use Rattle.ns_moves.specs.State.{ending_of}
 use Rattle.ns_run_code.specs.declared.run.Ran.{Ran}
 use Rattle.ns_run_told.specs.Laws.{line_of}
 use Rattle.ns_session.specs.Robin.{session_run}

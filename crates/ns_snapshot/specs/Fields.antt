@@ -20,7 +20,7 @@ use Rattle.ns_world.specs.declared.ending.LimitKind.{LimitKind}
 use Rattle.ns_world.specs.declared.ending.LimitKind.TheVariants as limit
 use Rattle.ns_world.specs.declared.kernel_parts.KMethod.{KMethod}
 use Rattle.ns_world.specs.declared.kernel_parts.KMethod.TheVariants as method
-use Rattle.ns_actions.specs.declared.site.Site.{Site}
+use Rattle.ns_moves.specs.declared.site.Site.{Site}
 
 -- ---- fields
 

@@ -16,7 +16,7 @@ use Rattle.ns_world.specs.declared.ending.Ending.TheVariants as ends
 use Rattle.ns_facets.specs.declared.board.Plain.{Plain}
 use Rattle.ns_facets.specs.declared.board.Plain.TheVariants as p
 use Rattle.ns_kcode.specs.declared.state.KState.{KState}
-use Rattle.ns_actions.specs.declared.site.Site.{Site}
+use Rattle.ns_moves.specs.declared.site.Site.{Site}
 use Rattle.ns_frozen.specs.declared.cell.CellData.{CellData}
 use Rattle.ns_frozen.specs.declared.cell.CellData.TheVariants as held
 use Rattle.ns_frozen.specs.declared.frame.FrameKind.{FrameKind}

@@ -5,12 +5,12 @@ ghost use Rattle.ns_snapshot.specs.Fields as spec;
 
 use crate::field::{counted, option};
 use crate::variant::{kernel_class, kernel_row};
-use ns_actions::site::Site;
 use ns_base::items::Items;
 use ns_base::place::Place;
 use ns_image::fault::Fault;
 use ns_image::read::format::Format;
 use ns_image::read::input::Input;
+use ns_moves::site::Site;
 use ns_world::kernel::ClassName;
 use ns_world::value::Value;
 use std::alloc::Global;

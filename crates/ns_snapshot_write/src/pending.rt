@@ -12,11 +12,11 @@ use crate::output::with_byte;
 use crate::part::{Part, measure_counted, put_counted};
 use crate::room::{Room, TooLarge};
 use crate::variant::{kind_number, limit_number};
-use ns_actions::site::Site;
 use ns_base::no_memory::NoMemory;
 use ns_base::selector::Sel;
 use ns_frozen::pending::Pending;
 use ns_image_write::write::output::{put_byte, put_word};
+use ns_moves::site::Site;
 use ns_world::ending::{Ending, RunError};
 use ns_world::value::Value;
 

@@ -7,10 +7,10 @@ use crate::output::{with_byte, with_long, with_word};
 use crate::part::Part;
 use crate::room::{Room, TooLarge};
 use crate::variant::{kernel_class, row_number};
-use ns_actions::site::Site;
 use ns_base::no_memory::NoMemory;
 use ns_base::place::Place;
 use ns_image_write::write::output::{put_byte, put_word};
+use ns_moves::site::Site;
 use ns_world::kernel::ClassName;
 use ns_world::value::{KClass, Value};
 

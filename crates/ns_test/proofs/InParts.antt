@@ -4,7 +4,7 @@ use Rattle.ns_base.specs.declared.limits.Limits.{Limits}
 use Rattle.ns_code.specs.Selector.{selector_text}
 use Rattle.ns_code.specs.declared.program.CodeProgram.{CodeProgram}
 use Rattle.ns_json.specs.declared.saying.End.{End}
-use Rattle.ns_machine_moves.specs.State.{ending_of, world_of}
+use Rattle.ns_moves.specs.State.{ending_of, world_of}
 use Rattle.ns_run_code.specs.Machine.{end_of, told_at}
 use Rattle.ns_run_told.specs.Laws.{LinesTellEnds, line_of}
 use Rattle.ns_run_told.specs.Told.{run_told}

@@ -10,7 +10,7 @@ use Rattle.ns_code.specs.Selector.{selector_text}
 use Rattle.ns_gen_code.specs.Code.{code_of}
 use Rattle.ns_gen_code.specs.Sizes.{size_fault}
 use Rattle.ns_gen_code.specs.declared.size.SizeKind.{SizeKind}
-use Rattle.ns_machine_moves.specs.State.{State, ending_of, world_of}
+use Rattle.ns_moves.specs.State.{State, ending_of, world_of}
 use Rattle.ns_resolved.specs.Program.{Meant}
 use Rattle.ns_run_code.specs.Machine.{end_of}
 use Rattle.ns_world.specs.Heap.{Heap}

@@ -3,7 +3,7 @@ use Rattle.std.proofs.Common.{◌≡◌, ℕ, List, Result, IfOk, ap, subst, ◌
 use Rattle.ns_base.specs.declared.limits.Limits.{Limits}
 use Rattle.ns_code.specs.declared.program.CodeProgram.{CodeProgram}
 use Rattle.ns_machine.specs.Machine.{MachineView}
-use Rattle.ns_machine_moves.specs.State.{State}
+use Rattle.ns_moves.specs.State.{State}
 use Rattle.ns_run_code.specs.Run.{granted}
 use Rattle.ns_test.specs.declared.alone.TestResult.{TestResult}
 use Rattle.ns_test.specs.Alone.{line_at, part_at, run_alone, verdict_at}

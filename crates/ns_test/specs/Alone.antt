@@ -8,8 +8,8 @@ use Rattle.ns_world.specs.declared.value.Value.{Value}
 use Rattle.ns_world.specs.declared.value.Value.TheVariants.{False}
 use Rattle.ns_world.specs.declared.ending.Ending.{Ending}
 use Rattle.ns_world.specs.declared.ending.Ending.TheVariants.{Done, Error, Limit}
-use Rattle.ns_machine_moves.specs.Starts.{begun}
-use Rattle.ns_machine_moves.specs.State.{State, ending_of}
+use Rattle.ns_moves.specs.Starts.{begun}
+use Rattle.ns_moves.specs.State.{State, ending_of}
 use Rattle.ns_machine.specs.Asking.{named}
 use Rattle.ns_json.specs.declared.saying.End.{End}
 use Rattle.ns_json.specs.declared.saying.Outcome.{Outcome}

@@ -14,7 +14,7 @@ use Rattle.ns_world.specs.declared.value.Value.{Value}
 use Rattle.ns_world.specs.declared.value.Value.TheVariants.{Ref}
 use Rattle.ns_world.specs.Heap.{Heap, find_cell, is_class}
 use Rattle.ns_world.specs.Layout.{declaration_of}
-use Rattle.ns_machine_moves.specs.State.{State}
+use Rattle.ns_moves.specs.State.{State}
 use Rattle.ns_run_code.specs.Machine.{begins_with, rested}
 
 -- where the opening comes to rest: a run with what a command grants, and without arguments

@@ -9,7 +9,7 @@ use Rattle.ns_code.specs.Selector.{selector_text}
 use Rattle.ns_json.specs.declared.saying.Outcome.{Outcome}
 use Rattle.ns_json.specs.declared.saying.Outcome.TheVariants as outcome
 use Rattle.ns_machine.specs.Asking.{named}
-use Rattle.ns_machine_moves.specs.State.{State}
+use Rattle.ns_moves.specs.State.{State}
 use Rattle.ns_run_told.specs.Laws.{line_of}
 use Rattle.ns_test.specs.declared.report.TestReport.{TestReport}
 use Rattle.ns_test.specs.declared.report.TestFault.{TestFault}

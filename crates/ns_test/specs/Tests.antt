@@ -11,7 +11,7 @@ use Rattle.ns_code.specs.Selector.{selector_text}
 use Rattle.ns_gen_code.specs.declared.size.SizeKind.{SizeKind}
 use Rattle.ns_world.specs.declared.ending.Ending.{Ending}
 use Rattle.ns_world.specs.declared.ending.Ending.TheVariants.{Done, Error, Limit}
-use Rattle.ns_machine_moves.specs.State.{State, ending_of, world_of}
+use Rattle.ns_moves.specs.State.{State, ending_of, world_of}
 use Rattle.ns_json.specs.declared.saying.Run.{Run}
 use Rattle.ns_json.specs.declared.saying.Test.{Test}
 use Rattle.ns_run_code.specs.Machine.{end_of, told_at}

@@ -3,8 +3,8 @@
 ghost use Rattle.std.specs.Prelude.{◌≡◌, ◌++◌, [], Some, IfOk, codes};
 ghost use Rattle.ns_base.specs.Limits.{InRange};
 ghost use Rattle.ns_machine.specs.Asking.{HasSelector, MayAsk, named};
-ghost use Rattle.ns_machine_moves.specs.Starts.{begun};
-ghost use Rattle.ns_machine_moves.specs.State.{ending_of, world_of};
+ghost use Rattle.ns_moves.specs.Starts.{begun};
+ghost use Rattle.ns_moves.specs.State.{ending_of, world_of};
 ghost use Rattle.ns_machine_report.specs.Ending.{IsLiveEnding};
 ghost use Rattle.ns_run_code.specs.Machine.{rested};
 ghost use Rattle.ns_run_code.specs.Run.{granted};

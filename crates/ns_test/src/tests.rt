@@ -4,7 +4,7 @@ ghost use Rattle.std.specs.Prelude.{◌≡◌, All, Bool, count_by, Err, IfOk, I
 ghost use Rattle.ns_base.specs.Limits.{InRange};
 ghost use Rattle.ns_code.specs.Selector.{selector_text};
 ghost use Rattle.ns_machine.specs.Asking.{HasSelector};
-ghost use Rattle.ns_machine_moves.specs.State.{ending_of, world_of};
+ghost use Rattle.ns_moves.specs.State.{ending_of, world_of};
 ghost use Rattle.ns_machine_report.specs.Ending.{IsLiveEnding};
 ghost use Rattle.ns_run_code.specs.Running.{HasAnEnd};
 ghost use Rattle.ns_world.specs.Lawful.{IsLiveValue};

@@ -4,9 +4,9 @@ use Rattle.std.specs.Prelude.{reverse, ◌-◌, nat_lt}
 use Rattle.ns_code.specs.declared.program.CodeProgram.{CodeProgram}
 use Rattle.ns_world.specs.declared.value.Value.{Value}
 use Rattle.ns_world.specs.World.{World, WorldView, stepped}
-use Rattle.ns_actions.specs.Control.{Progress, Gives}
-use Rattle.ns_machine_moves.specs.Returns.{settled}
-use Rattle.ns_machine_moves.specs.Steps.{steps_from}
+use Rattle.ns_moves.specs.Control.{Progress, Gives}
+use Rattle.ns_moves.specs.Returns.{settled}
+use Rattle.ns_moves.specs.Steps.{steps_from}
 use Rattle.ns_machine_frames.specs.declared.frame.Frame.{Frame}
 use Rattle.ns_machine_frames.specs.declared.frame.Frame.TheVariants.{Running, Looping}
 use Rattle.ns_machine_frames.specs.declared.registers.Registers.{Registers}

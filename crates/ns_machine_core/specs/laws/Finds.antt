@@ -2,8 +2,8 @@
 use Rattle.std.proofs.Common.{◌≡◌, List, [], ◌∷◌, take, subst}
 use Rattle.ns_code.specs.declared.program.CodeProgram.{CodeProgram}
 use Rattle.ns_code.specs.declared.instruction.Instr.{Instr}
-use Rattle.ns_actions.specs.Lawful.{FitsActivation}
-use Rattle.ns_actions.specs.Running.{code_of}
+use Rattle.ns_moves.specs.Lawful.{FitsActivation}
+use Rattle.ns_moves.specs.Running.{code_of}
 use Rattle.ns_machine_frames.specs.declared.frame.Frame.{Frame}
 use Rattle.ns_machine_frames.specs.declared.frame.Frame.TheVariants.{Running, Looping}
 use Rattle.ns_machine_frames.specs.declared.frame.RunningFrame.{RunningFrame}

@@ -5,10 +5,10 @@ use Rattle.ns_code.specs.declared.program.CodeProgram.{CodeProgram}
 use Rattle.ns_facets.specs.declared.row.Grants.{Grants}
 use Rattle.ns_world.specs.declared.value.Value.{Value}
 use Rattle.ns_world.specs.Lawful.{IsLawful}
-use Rattle.ns_machine_moves.specs.State.{Phase, progress_of}
-use Rattle.ns_machine_moves.specs.Valid.{Valid}
-use Rattle.ns_machine_moves.specs.laws.Worlds.{valid_lawful}
-use Rattle.ns_actions.specs.Control.{Progress}
+use Rattle.ns_moves.specs.State.{Phase, progress_of}
+use Rattle.ns_moves.specs.Valid.{Valid}
+use Rattle.ns_moves.specs.laws.Worlds.{valid_lawful}
+use Rattle.ns_moves.specs.Control.{Progress}
 use Rattle.ns_machine_frames.specs.declared.frame.Pending.{Pending}
 use Rattle.ns_machine_frames.specs.declared.frame.Pending.TheVariants as pending
 use Rattle.ns_machine_frames.specs.declared.registers.Registers.{Registers}

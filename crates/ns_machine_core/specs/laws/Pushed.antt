@@ -18,7 +18,7 @@ use Rattle.ns_world.specs.declared.ending.Ending.{Ending}
 use Rattle.ns_machine_core.specs.declared.state.Core.{Core}
 use Rattle.ns_machine_core.specs.Shown.{progress_in}
 use Rattle.ns_machine_core.specs.Standing.{KeepsRooms}
-use Rattle.ns_actions.specs.Bodies.{height_in, greatest_of}
+use Rattle.ns_moves.specs.Bodies.{height_in, greatest_of}
 use Rattle.ns_machine_core.specs.Doing.{Finds, CanDo, IsRunning}
 
 -- what stays where the stack alone has changed

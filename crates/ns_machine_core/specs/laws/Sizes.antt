@@ -4,14 +4,14 @@ use Rattle.std.specs.Prelude.{zero, suc}
 use Rattle.std.specs.Option.{option_map_or}
 use Rattle.ns_code.specs.declared.program.CodeProgram.{CodeProgram}
 use Rattle.ns_code.specs.declared.body.BodyCode.{BodyCode}
-use Rattle.ns_actions.specs.declared.control.Entered.{Entered}
-use Rattle.ns_actions.specs.declared.control.Given.{Given}
-use Rattle.ns_actions.specs.declared.control.Given.TheVariants as given
-use Rattle.ns_actions.specs.Bodies as bodies
+use Rattle.ns_moves.specs.declared.control.Entered.{Entered}
+use Rattle.ns_moves.specs.declared.control.Given.{Given}
+use Rattle.ns_moves.specs.declared.control.Given.TheVariants as given
+use Rattle.ns_moves.specs.Bodies as bodies
 use Rattle.ns_machine_frames.specs.declared.calls.BodyShape.{BodyShape}
 use Rattle.ns_machine_frames.specs.declared.calls.Call.{Call}
 use Rattle.ns_machine_frames.specs.Calls.{frame_for}
-use Rattle.ns_actions.specs.Bodies.{height_in, greatest_of}
+use Rattle.ns_moves.specs.Bodies.{height_in, greatest_of}
 
 -- a body's frame is no greater than the greatest
 greatest_is : (bodies : List BodyCode) (number : ℕ) (body : BodyCode) → slice_get bodies number ≡ Some body →

@@ -12,16 +12,16 @@ use Rattle.ns_world.specs.Cell.{Cell, BlockCell, cell_size}
 use Rattle.ns_world.specs.Heap.{heap_size}
 use Rattle.ns_world.specs.Layout.{entry_word}
 use Rattle.ns_world.specs.World.{World, written, stored}
-use Rattle.ns_actions.specs.Control.{Progress, Activation, Gives, Halts, charged, in_world}
-use Rattle.ns_actions.specs.Blocks.{new_cell}
-use Rattle.ns_actions.specs.Bodies.{enclosing, environment_at, is_beside, local_at, locals_with, local_stored, world_with_local}
-use Rattle.ns_actions.specs.Classes.{slot_filled}
-use Rattle.ns_machine_moves.specs.State as state
-use Rattle.ns_machine_moves.specs.State.{State, Going, Stuck, Leaving, Phase}
-use Rattle.ns_machine_moves.specs.Steps.{PlacedInstr, steps_from}
-use Rattle.ns_machine_moves.specs.Operands.{picked}
-use Rattle.ns_machine_moves.specs.Instructions.{executed}
-use Rattle.ns_machine_moves.specs.Returns.{settled}
+use Rattle.ns_moves.specs.Control.{Progress, Activation, Gives, Halts, charged, in_world}
+use Rattle.ns_moves.specs.Blocks.{new_cell}
+use Rattle.ns_moves.specs.Bodies.{enclosing, environment_at, is_beside, local_at, locals_with, local_stored, world_with_local}
+use Rattle.ns_moves.specs.Classes.{slot_filled}
+use Rattle.ns_moves.specs.State as state
+use Rattle.ns_moves.specs.State.{State, Going, Stuck, Leaving, Phase}
+use Rattle.ns_moves.specs.Steps.{PlacedInstr, steps_from}
+use Rattle.ns_moves.specs.Operands.{picked}
+use Rattle.ns_moves.specs.Instructions.{executed}
+use Rattle.ns_moves.specs.Returns.{settled}
 use Rattle.ns_machine_frames.specs.declared.frame.Frame.{Frame}
 use Rattle.ns_machine_frames.specs.declared.frame.Frame.TheVariants.{Running, Looping}
 use Rattle.ns_machine_frames.specs.declared.frame.RunningFrame.{RunningFrame}

@@ -5,8 +5,8 @@ use Rattle.std.specs.Option.{option_map_or}
 use Rattle.ns_code.specs.declared.program.CodeProgram.{CodeProgram}
 use Rattle.ns_code.specs.declared.body.BodyCode.{BodyCode}
 use Rattle.ns_code.specs.declared.instruction.Instr.TheVariants as i
-use Rattle.ns_machine_moves.specs.Steps.{placed, steps_of}
-use Rattle.ns_machine_moves.specs.laws.Steps.{placed_length}
+use Rattle.ns_moves.specs.Steps.{placed, steps_of}
+use Rattle.ns_moves.specs.laws.Steps.{placed_length}
 
 pub steps_are : (code : CodeProgram) (number : ℕ) (body : BodyCode) → slice_get code.bodies number ≡ Some body →
     steps_of code number ≡ placed body.places 0 body.instrs

@@ -5,14 +5,14 @@ use Rattle.ns_base.specs.declared.selector.Sel.{Sel}
 use Rattle.ns_code.specs.declared.program.CodeProgram.{CodeProgram}
 use Rattle.ns_code.specs.Soundness.{initialiser_kind}
 use Rattle.ns_world.specs.declared.value.Value.{Value}
-use Rattle.ns_actions.specs.declared.site.Site.{Site}
-use Rattle.ns_actions.specs.Control.{Progress, Activation, Control, Now, Enter, FromMethod, FromBody, FromClause, Evaluate, Begin, Perform}
-use Rattle.ns_actions.specs.Bodies.{no_home}
-use Rattle.ns_actions.specs.Actions.{Action, Sends}
-use Rattle.ns_actions.specs.Lawful.{LawfulRun, LawfulControl, FitsTarget, FitsSelector}
-use Rattle.ns_actions.specs.Fitting.{GoesOnAt, Asks, HandsOn}
-use Rattle.ns_actions.specs.Spending.{ControlSpends, Spends}
-use Rattle.ns_actions.specs.Sends.{Target, receiver_of, site_at, sent}
+use Rattle.ns_moves.specs.declared.site.Site.{Site}
+use Rattle.ns_moves.specs.Control.{Progress, Activation, Control, Now, Enter, FromMethod, FromBody, FromClause, Evaluate, Begin, Perform}
+use Rattle.ns_moves.specs.Bodies.{no_home}
+use Rattle.ns_moves.specs.Actions.{Action, Sends}
+use Rattle.ns_moves.specs.Lawful.{LawfulRun, LawfulControl, FitsTarget, FitsSelector}
+use Rattle.ns_moves.specs.Fitting.{GoesOnAt, Asks, HandsOn}
+use Rattle.ns_moves.specs.Spending.{ControlSpends, Spends}
+use Rattle.ns_moves.specs.Sends.{Target, receiver_of, site_at, sent}
 use Rattle.ns_machine_sends.specs.Going.{HasRoomAbove, ControlGoesOn}
 
 -- A frame that was charged is within the limit, and few arguments stay few.

@@ -12,16 +12,16 @@ use Rattle.ns_world.specs.declared.value.Value.TheVariants.{Nil, Ref}
 use Rattle.ns_world.specs.Cell.{Cell, EnvironmentCell, cell_size}
 use Rattle.ns_world.specs.Heap.{heap_size}
 use Rattle.ns_world.specs.World.{World, entered, made, stepped}
-use Rattle.ns_actions.specs.declared.control.Exit.TheVariants as exit
-use Rattle.ns_actions.specs.declared.control.Given.TheVariants as given
-use Rattle.ns_actions.specs.declared.control.Reached.TheVariants as reached
-use Rattle.ns_actions.specs.declared.site.Site.{Site}
-use Rattle.ns_actions.specs.Bodies.{opened, parameters_of}
-use Rattle.ns_actions.specs.Blocks.{block_entered}
-use Rattle.ns_actions.specs.Control.{Activation, Control, Enter, FromBody, FromMethod, Progress, charged, fails, halts, in_world}
-use Rattle.ns_actions.specs.Sends.{Listed, method_entered, one_more}
-use Rattle.ns_actions.specs.Shown.{reached_shown}
-use Rattle.ns_actions.specs.declared.running.Running.{Running}
+use Rattle.ns_moves.specs.declared.control.Exit.TheVariants as exit
+use Rattle.ns_moves.specs.declared.control.Given.TheVariants as given
+use Rattle.ns_moves.specs.declared.control.Reached.TheVariants as reached
+use Rattle.ns_moves.specs.declared.site.Site.{Site}
+use Rattle.ns_moves.specs.Bodies.{opened, parameters_of}
+use Rattle.ns_moves.specs.Blocks.{block_entered}
+use Rattle.ns_moves.specs.Control.{Activation, Control, Enter, FromBody, FromMethod, Progress, charged, fails, halts, in_world}
+use Rattle.ns_moves.specs.Sends.{Listed, method_entered, one_more}
+use Rattle.ns_moves.specs.Shown.{reached_shown}
+use Rattle.ns_moves.specs.declared.running.Running.{Running}
 use Rattle.ns_machine_frames.specs.declared.calls.BodyShape.{BodyShape}
 use Rattle.ns_machine_core.specs.Arriving.{shape_of}
 use Rattle.ns_machine_core.specs.laws.Charged.{step_is}

@@ -17,7 +17,7 @@ use Rattle.ns_machine_frames.specs.Stack.{in_use, stood, with_top, IsLaid}
 use Rattle.ns_machine_frames.specs.laws.Taking.{taken_laid}
 use Rattle.ns_machine_core.specs.declared.state.Core.{Core}
 use Rattle.ns_machine_core.specs.Shown.{progress_in}
-use Rattle.ns_actions.specs.Bodies.{height_in, greatest_of}
+use Rattle.ns_moves.specs.Bodies.{height_in, greatest_of}
 use Rattle.ns_machine_core.specs.Doing.{Finds, CanDo}
 use Rattle.ns_machine_core.specs.laws.Pushed.{one_more, operands_count}
 use Rattle.ns_machine_core.specs.laws.Taken.{some_operand}

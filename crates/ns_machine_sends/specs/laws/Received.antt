@@ -12,11 +12,11 @@ use Rattle.ns_world.specs.Starts.{class_name_of}
 use Rattle.ns_find.specs.declared.found.Sending.{Sending}
 use Rattle.ns_find.specs.declared.found.Sending.TheVariants.{Plain, Inner}
 use Rattle.ns_machine_plan.specs.Steps.{send_instr}
-use Rattle.ns_actions.specs.Control.{Activation}
-use Rattle.ns_actions.specs.Sends.{To, sent}
-use Rattle.ns_machine_moves.specs.Arrivals.{arrived}
-use Rattle.ns_machine_moves.specs.State.{State, Stuck}
-use Rattle.ns_machine_moves.specs.WorldAsks.{SelectorTakes}
+use Rattle.ns_moves.specs.Control.{Activation}
+use Rattle.ns_moves.specs.Sends.{To, sent}
+use Rattle.ns_moves.specs.Arrivals.{arrived}
+use Rattle.ns_moves.specs.State.{State, Stuck}
+use Rattle.ns_moves.specs.WorldAsks.{SelectorTakes}
 use Rattle.ns_machine_frames.specs.Stated.{ComeOffAgain}
 use Rattle.ns_machine_frames.specs.declared.frame.RunningFrame.{RunningFrame}
 use Rattle.ns_machine_frames.specs.declared.registers.Registers.{Registers}

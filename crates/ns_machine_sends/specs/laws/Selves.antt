@@ -10,13 +10,13 @@ use Rattle.ns_world.specs.declared.value.Value.{Value}
 use Rattle.ns_world.specs.declared.kernel.ClassName.{ClassName}
 use Rattle.ns_world.specs.Lawful.{IsLawful, IsLiveValue}
 use Rattle.ns_world.specs.Starts.{class_name_of}
-use Rattle.ns_actions.specs.Lawful.{FitsActivation, declaration_at}
-use Rattle.ns_actions.specs.Sends.{Target, ToPrivate, sent}
-use Rattle.ns_machine_moves.specs.Arrivals.{arrived}
-use Rattle.ns_machine_moves.specs.State.{State, Stuck}
-use Rattle.ns_machine_moves.specs.WorldAsks.{SelectorTakes}
-use Rattle.ns_actions.specs.declared.running.Running.{Running as RunningCode}
-use Rattle.ns_actions.specs.Running.{code_of}
+use Rattle.ns_moves.specs.Lawful.{FitsActivation, declaration_at}
+use Rattle.ns_moves.specs.Sends.{Target, ToPrivate, sent}
+use Rattle.ns_moves.specs.Arrivals.{arrived}
+use Rattle.ns_moves.specs.State.{State, Stuck}
+use Rattle.ns_moves.specs.WorldAsks.{SelectorTakes}
+use Rattle.ns_moves.specs.declared.running.Running.{Running as RunningCode}
+use Rattle.ns_moves.specs.Running.{code_of}
 use Rattle.ns_machine_frames.specs.declared.frame.Frame.TheVariants.{Running}
 use Rattle.ns_machine_frames.specs.declared.frame.RunningFrame.{RunningFrame}
 use Rattle.ns_machine_frames.specs.declared.registers.Registers.{Registers}

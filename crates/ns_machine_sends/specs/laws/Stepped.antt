@@ -11,13 +11,13 @@ use Rattle.ns_world.specs.Heap.{Heap}
 use Rattle.ns_world.specs.Starts.{class_name_of}
 use Rattle.ns_world.specs.World.{World, WorldView, SameRoom, stepped}
 use Rattle.ns_find.specs.Memo.{PlaceIsRight}
-use Rattle.ns_actions.specs.declared.site.Site.{Site}
-use Rattle.ns_actions.specs.Control.{Progress, Activation, Control, halts, charged}
-use Rattle.ns_actions.specs.Lawful.{FitsTarget}
-use Rattle.ns_actions.specs.Sends.{Target, receiver_of, site_at, sent}
-use Rattle.ns_machine_moves.specs.Arrivals.{arrived}
-use Rattle.ns_actions.specs.Answered.{answered}
-use Rattle.ns_actions.specs.Running.{nowhere}
+use Rattle.ns_moves.specs.declared.site.Site.{Site}
+use Rattle.ns_moves.specs.Control.{Progress, Activation, Control, halts, charged}
+use Rattle.ns_moves.specs.Lawful.{FitsTarget}
+use Rattle.ns_moves.specs.Sends.{Target, receiver_of, site_at, sent}
+use Rattle.ns_moves.specs.Arrivals.{arrived}
+use Rattle.ns_moves.specs.Answered.{answered}
+use Rattle.ns_moves.specs.Running.{nowhere}
 use Rattle.ns_machine_frames.specs.declared.registers.Registers.{Registers}
 use Rattle.ns_machine_frames.specs.Stack.{stood, with_top}
 use Rattle.ns_machine_frames.specs.View.{site_shown, frames_shown}

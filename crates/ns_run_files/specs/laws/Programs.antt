@@ -16,8 +16,8 @@ use Rattle.ns_code.specs.declared.program.CodeProgram.{CodeProgram}
 use Rattle.ns_gen_code.specs.Code.{code_of}
 use Rattle.ns_gen_code.specs.Sizes.{size_fault}
 use Rattle.ns_gen_code.specs.declared.size.SizeKind.{SizeKind}
-use Rattle.ns_machine_moves.specs.State.{State, ending_of}
-use Rattle.ns_machine_moves.specs.State as states
+use Rattle.ns_moves.specs.State.{State, ending_of}
+use Rattle.ns_moves.specs.State as states
 use Rattle.ns_json.specs.declared.saying.Saying.{Saying}
 use Rattle.ns_json.specs.declared.saying.Saying.TheVariants as said
 use Rattle.ns_resolved.specs.Classes.{meant_of}

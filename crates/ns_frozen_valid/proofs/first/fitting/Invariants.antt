@@ -1,5 +1,5 @@
 use Rattle.std.proofs.Common.{◌≡◌, ◌≤◌, ◌*◌, ◌++◌, map, drop}
-use Rattle.ns_machine_moves.specs.Valid.{fitting}
+use Rattle.ns_moves.specs.Valid.{fitting}
 use Rattle.ns_frozen_valid.specs.First.{first_shown}
 use Rattle.ns_frozen_valid.proofs.first.fitting.Given as goal
 

@@ -2,7 +2,7 @@ use Rattle.std.proofs.Common.{List, length, drop, get_or, map, refl, ap, sym, â—
 use Rattle.std.proofs.lemmas.List.{drop_all}
 use Rattle.ns_code.specs.declared.class.ClassCode.{ClassCode}
 use Rattle.ns_world.specs.Cell.{Cell}
-use Rattle.ns_actions.specs.Start.{facets_of, tops_of}
+use Rattle.ns_moves.specs.Start.{facets_of, tops_of}
 use Rattle.ns_frozen_valid.specs.First.{first_shown}
 use Rattle.ns_frozen_valid.proofs.Built.{next_of}
 use Rattle.ns_frozen_valid.proofs.Starts.{tops_on}

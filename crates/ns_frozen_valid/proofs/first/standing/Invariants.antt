@@ -1,5 +1,5 @@
 use Rattle.std.proofs.Common.{◌≡◌, ◌++◌, map, drop}
-use Rattle.ns_actions.specs.Start.{facets_of, tops_of}
+use Rattle.ns_moves.specs.Start.{facets_of, tops_of}
 use Rattle.ns_frozen_valid.specs.First.{first_shown}
 use Rattle.ns_frozen_valid.proofs.first.standing.Given as goal
 

@@ -1,6 +1,6 @@
 use Rattle.std.proofs.Common.{sym, ap, ◌∙◌}
 use Rattle.ns_kdata.specs.Arguments.{argument}
-use Rattle.ns_actions.specs.Shown.{reached_shown}
+use Rattle.ns_moves.specs.Shown.{reached_shown}
 use Rattle.ns_kernel_rows.specs.Reaching.{progress_of}
 use Rattle.ns_kernel_rows.proofs.Outcomes.{outcome_given, room_kept, limits_kept, data_other}
 use Rattle.ns_kernel_rows.proofs.row.data_reached.Goals as goal

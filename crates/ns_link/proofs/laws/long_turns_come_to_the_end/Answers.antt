@@ -1,10 +1,10 @@
 use Rattle.std.proofs.Common.{◌+◌, refl}
 use Rattle.ns_world.specs.declared.value.Value.TheVariants.{Nil}
-use Rattle.ns_actions.specs.Start.{start_cells, nothing_done}
+use Rattle.ns_moves.specs.Start.{start_cells, nothing_done}
 use Rattle.ns_resolved.specs.Tables.{tables}
 use Rattle.ns_gen_code.specs.Code.{code_of}
 use Rattle.ns_model.specs.Whole.{ran}
-use Rattle.ns_machine_moves.specs.Starts.{new_machine}
+use Rattle.ns_moves.specs.Starts.{new_machine}
 use Rattle.ns_link.specs.Stated.{begins}
 use Rattle.ns_link.proofs.FewerSteps.{all_limits, started_limits}
 use Rattle.ns_link.proofs.LongTurns.{long_turn_ends, few_steps}

@@ -1,5 +1,5 @@
 use Rattle.std.proofs.Common.{◌≡◌, arith, sym, ◌∙◌, ap, length}
-use Rattle.ns_machine_moves.specs.Steps.{super_place, steps_of, steps_from}
+use Rattle.ns_moves.specs.Steps.{super_place, steps_of, steps_from}
 use Rattle.ns_machine.proofs.Opening.{none_behind, none_there}
 use Rattle.ns_machine.proofs.own.super_place.Goals as goal
 

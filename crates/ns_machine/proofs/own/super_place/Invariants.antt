@@ -1,5 +1,5 @@
 use Rattle.std.proofs.Common.{◌≡◌}
-use Rattle.ns_machine_moves.specs.Steps.{super_place, steps_of, steps_from}
+use Rattle.ns_moves.specs.Steps.{super_place, steps_of, steps_from}
 use Rattle.ns_machine.proofs.own.super_place.Given as goal
 
 abbrev pub invariant-steps : goal.invariant-steps

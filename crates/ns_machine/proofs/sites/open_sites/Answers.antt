@@ -1,5 +1,5 @@
 use Rattle.std.proofs.Common.{◌≡◌, ◌∙◌, ap, sym, subst, IfOk, List}
-use Rattle.ns_actions.specs.declared.site.Site.{Site}
+use Rattle.ns_moves.specs.declared.site.Site.{Site}
 use Rattle.ns_machine_core.specs.declared.state.Next.{Next}
 use Rattle.ns_machine_core.specs.Shown.{shown}
 use Rattle.ns_machine.specs.Sites.{sites_of}

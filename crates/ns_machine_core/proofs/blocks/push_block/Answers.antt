@@ -1,10 +1,10 @@
 use Rattle.std.proofs.Common.{◌≡◌, subst, Ok, Err}
-use Rattle.ns_actions.specs.declared.site.Site.{Site}
-use Rattle.ns_actions.specs.Blocks.{new_block}
-use Rattle.ns_actions.specs.Control.{Progress, in_world}
-use Rattle.ns_actions.specs.Shown.{answer_shown}
-use Rattle.ns_actions.specs.declared.running.Running.{Running}
-use Rattle.ns_actions.specs.Running.{activation_at}
+use Rattle.ns_moves.specs.declared.site.Site.{Site}
+use Rattle.ns_moves.specs.Blocks.{new_block}
+use Rattle.ns_moves.specs.Control.{Progress, in_world}
+use Rattle.ns_moves.specs.Shown.{answer_shown}
+use Rattle.ns_moves.specs.declared.running.Running.{Running}
+use Rattle.ns_moves.specs.Running.{activation_at}
 use Rattle.ns_machine_core.specs.declared.state.Next.TheVariants.{On}
 use Rattle.ns_machine_core.proofs.Made.{block_done}
 use Rattle.ns_machine_core.proofs.Unmade.{block_unmade}

@@ -1,9 +1,9 @@
 use Rattle.std.proofs.Common.{ℕ, length, ap, sym, ◌∙◌, arith, slice_index_or}
 use Rattle.ns_world.specs.declared.value.Value.TheVariants.{Nil}
 use Rattle.ns_world.specs.Heap.{words_at, word_at}
-use Rattle.ns_actions.specs.Bodies.{is_beside, environment_at}
-use Rattle.ns_actions.specs.declared.run.Run.{Run}
-use Rattle.ns_actions.specs.Running.{activation_at, nowhere}
+use Rattle.ns_moves.specs.Bodies.{is_beside, environment_at}
+use Rattle.ns_moves.specs.declared.run.Run.{Run}
+use Rattle.ns_moves.specs.Running.{activation_at, nowhere}
 use Rattle.ns_machine_frames.specs.Standing.{locals_in}
 use Rattle.ns_machine_frames.specs.Stack.{stood}
 use Rattle.ns_machine_core.proofs.LocalsDone.{not_taken}

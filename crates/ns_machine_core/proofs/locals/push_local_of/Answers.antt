@@ -1,10 +1,10 @@
 use Rattle.std.proofs.Common.{◌≡◌, ap, sym, subst}
 use Rattle.ns_code.specs.declared.instruction.Instr.TheVariants as instr
-use Rattle.ns_actions.specs.declared.site.Site.{Site}
-use Rattle.ns_actions.specs.Bodies.{has_environment, local_at}
-use Rattle.ns_actions.specs.declared.run.Run.{Run}
-use Rattle.ns_actions.specs.declared.running.Running.{Running}
-use Rattle.ns_actions.specs.Running.{activation_at}
+use Rattle.ns_moves.specs.declared.site.Site.{Site}
+use Rattle.ns_moves.specs.Bodies.{has_environment, local_at}
+use Rattle.ns_moves.specs.declared.run.Run.{Run}
+use Rattle.ns_moves.specs.declared.running.Running.{Running}
+use Rattle.ns_moves.specs.Running.{activation_at}
 use Rattle.ns_machine_frames.specs.Standing.{locals_in}
 use Rattle.ns_machine_frames.specs.Stack.{stood}
 use Rattle.ns_machine_core.specs.declared.state.Core.{Core}

@@ -1,11 +1,11 @@
 use Rattle.std.proofs.Common.{◌≡◌, false, sym, ◌∙◌, subst}
 use Rattle.ns_code.specs.declared.instruction.Instr.TheVariants as instrs
-use Rattle.ns_actions.specs.declared.site.Site.{Site}
-use Rattle.ns_actions.specs.Control.{Progress, in_world}
-use Rattle.ns_actions.specs.Bodies.{has_environment, is_beside, local_stored}
-use Rattle.ns_actions.specs.declared.running.Running.{Running}
-use Rattle.ns_actions.specs.Locals.{LocalIsReadable}
-use Rattle.ns_actions.specs.Running.{activation_at, code_of}
+use Rattle.ns_moves.specs.declared.site.Site.{Site}
+use Rattle.ns_moves.specs.Control.{Progress, in_world}
+use Rattle.ns_moves.specs.Bodies.{has_environment, is_beside, local_stored}
+use Rattle.ns_moves.specs.declared.running.Running.{Running}
+use Rattle.ns_moves.specs.Locals.{LocalIsReadable}
+use Rattle.ns_moves.specs.Running.{activation_at, code_of}
 use Rattle.ns_machine_core.specs.declared.state.Next.TheVariants as next
 use Rattle.ns_machine_core.specs.laws.Worlds.{in_other}
 use Rattle.ns_machine_core.proofs.LocalsDone.{stored_there, outside_stored, known_there}

@@ -1,9 +1,9 @@
 use Rattle.std.proofs.Common.{◌≡◌, subst}
 use Rattle.ns_code.specs.declared.instruction.Instr.TheVariants as instr
-use Rattle.ns_actions.specs.declared.site.Site.{Site}
-use Rattle.ns_actions.specs.Bodies.{enclosing}
-use Rattle.ns_actions.specs.declared.running.Running.{Running}
-use Rattle.ns_actions.specs.Running.{activation_at}
+use Rattle.ns_moves.specs.declared.site.Site.{Site}
+use Rattle.ns_moves.specs.Bodies.{enclosing}
+use Rattle.ns_moves.specs.declared.running.Running.{Running}
+use Rattle.ns_moves.specs.Running.{activation_at}
 use Rattle.ns_machine_core.specs.declared.state.Next.TheVariants as next
 use Rattle.ns_machine_core.proofs.Enclosed.{outer_pushed}
 use Rattle.ns_machine_core.proofs.Remembered.{with_memo, can_do_with, done_with}

@@ -2,7 +2,7 @@ use Rattle.std.proofs.Common.{◌≡◌, ◌+◌, ◌-◌, ℕ, ap, sym, subst, 
 use Rattle.ns_world.specs.declared.kernel.ClassName.{ClassName}
 use Rattle.ns_world.specs.declared.kernel.ClassName.TheVariants as name
 use Rattle.ns_world.specs.declared.kernel_class.KernelRow.TheVariants as class
-use Rattle.ns_actions.specs.Sends.{To}
+use Rattle.ns_moves.specs.Sends.{To}
 use Rattle.ns_kdata.specs.Arguments.{is_array}
 use Rattle.ns_machine_frames.specs.declared.registers.Registers.{Registers}
 use Rattle.ns_machine_frames.specs.Stack.{stood}

@@ -3,7 +3,7 @@ use Rattle.ns_world.specs.declared.kernel.ClassName.{ClassName}
 use Rattle.ns_world.specs.declared.kernel.ClassName.TheVariants as name
 use Rattle.ns_world.specs.declared.kernel_class.KernelRow.TheVariants as class
 use Rattle.ns_world.specs.Booleans.{is_boolean}
-use Rattle.ns_actions.specs.Sends.{To}
+use Rattle.ns_moves.specs.Sends.{To}
 use Rattle.ns_machine_frames.specs.declared.registers.Registers.{Registers}
 use Rattle.ns_machine_frames.specs.Stack.{stood}
 use Rattle.ns_machine_core.specs.declared.state.Next.TheVariants as next

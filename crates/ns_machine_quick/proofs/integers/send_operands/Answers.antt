@@ -2,8 +2,8 @@ use Rattle.std.proofs.Common.{◌≡◌, ◌+◌, ◌-◌, ℕ, ap, sym, subst, 
 use Rattle.ns_world.specs.declared.kernel.ClassName.{ClassName}
 use Rattle.ns_world.specs.declared.kernel.ClassName.TheVariants as name
 use Rattle.ns_world.specs.declared.kernel_class.KernelRow.TheVariants as class
-use Rattle.ns_actions.specs.Sends.{To}
-use Rattle.ns_actions.specs.Blocks.{is_integer}
+use Rattle.ns_moves.specs.Sends.{To}
+use Rattle.ns_moves.specs.Blocks.{is_integer}
 use Rattle.ns_machine_frames.specs.declared.registers.Registers.{Registers}
 use Rattle.ns_machine_frames.specs.Stack.{stood}
 use Rattle.ns_machine_core.specs.declared.state.Next.TheVariants as next

@@ -1,5 +1,5 @@
 use Rattle.std.proofs.Common.{refl}
-use Rattle.ns_actions.specs.Sends.{To}
+use Rattle.ns_moves.specs.Sends.{To}
 use Rattle.ns_machine_core.specs.declared.state.Next.TheVariants.{On}
 use Rattle.ns_machine_sends.specs.laws.Stepped.{step_sends}
 use Rattle.ns_machine_quick.proofs.looping.send_method.Goals as goal

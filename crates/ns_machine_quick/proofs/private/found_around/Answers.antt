@@ -1,7 +1,7 @@
 use Rattle.std.proofs.Common.{ℕ, ap, sym, ◌∙◌, subst}
 use Rattle.ns_world.specs.Heap.{find_cell, is_class}
 use Rattle.ns_world.specs.Layout.{declaration_of, entries_of}
-use Rattle.ns_actions.specs.Running.{code_of}
+use Rattle.ns_moves.specs.Running.{code_of}
 use Rattle.ns_machine_plan.specs.Privates.{SlotIsAmong, found_in}
 use Rattle.ns_machine_quick.proofs.Members.{member_among, member_found}
 use Rattle.ns_machine_quick.proofs.private.found_around.Goals as goal

@@ -1,8 +1,8 @@
 use Rattle.std.proofs.Common.{sym, subst}
 use Rattle.ns_find.specs.declared.found.Found.TheVariants.{Getter}
-use Rattle.ns_actions.specs.Control.{Control}
-use Rattle.ns_actions.specs.Sends.{ToPrivate}
-use Rattle.ns_actions.specs.Running.{code_of}
+use Rattle.ns_moves.specs.Control.{Control}
+use Rattle.ns_moves.specs.Sends.{ToPrivate}
+use Rattle.ns_moves.specs.Running.{code_of}
 use Rattle.ns_machine_core.specs.declared.state.Next.TheVariants.{On}
 use Rattle.ns_machine_core.specs.laws.Worlds.{in_other}
 use Rattle.ns_machine_sends.specs.Sending.{Sends}

@@ -1,5 +1,5 @@
 use Rattle.std.proofs.Common.{ap}
-use Rattle.ns_actions.specs.Bodies.{Place}
+use Rattle.ns_moves.specs.Bodies.{Place}
 use Rattle.ns_machine_quick.proofs.Privately.{around_on, around_charges}
 use Rattle.ns_machine_quick.proofs.private.send_around.Goals as goal
 

@@ -1,5 +1,5 @@
 use Rattle.std.proofs.Common.{refl}
-use Rattle.ns_actions.specs.Sends.{To}
+use Rattle.ns_moves.specs.Sends.{To}
 use Rattle.ns_machine_core.specs.declared.state.Next.TheVariants.{On}
 use Rattle.ns_machine_core.specs.laws.Charged.{step_on_top, on_top_after}
 use Rattle.ns_machine_core.specs.laws.Worlds.{in_other}

@@ -1,6 +1,6 @@
 use Rattle.std.proofs.Common.{◌∙◌, [], ap, sym}
 use Rattle.ns_machine.specs.Machine.{MachineView}
-use Rattle.ns_machine_moves.specs.State.{world_of}
+use Rattle.ns_moves.specs.State.{world_of}
 use Rattle.ns_machine_restore.proofs.Started.{new_limits}
 use Rattle.ns_machine_restore.proofs.restore.machine_of.Goals as goal
 

@@ -1,5 +1,5 @@
 use Rattle.std.proofs.Common.{refl}
-use Rattle.ns_actions.specs.declared.methods.Waited.TheVariants.{Ends}
+use Rattle.ns_moves.specs.declared.methods.Waited.TheVariants.{Ends}
 use Rattle.ns_machine_returns.proofs.Acted.{asked_lawful, asked_takes, asked_ends}
 use Rattle.ns_machine_returns.proofs.acting.end_method.Goals as goal
 

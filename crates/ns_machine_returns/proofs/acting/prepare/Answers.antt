@@ -1,7 +1,7 @@
 use Rattle.std.proofs.Common.{◌∙◌, ◌+◌, ◌≤◌, ◌++◌, List, length, take, ap, sym, subst, arith, rules, w64, SFits, to_z-of_z}
 use Rattle.ns_world.specs.declared.value.Value.{Value}
-use Rattle.ns_actions.specs.Blocks.{listed}
-use Rattle.ns_actions.specs.declared.methods.Waited.TheVariants.{Evaluates}
+use Rattle.ns_moves.specs.Blocks.{listed}
+use Rattle.ns_moves.specs.declared.methods.Waited.TheVariants.{Evaluates}
 use Rattle.ns_machine_frames.specs.declared.frame.Frame.{Frame}
 use Rattle.ns_machine_frames.specs.Row.{ValueRow, FrameRow}
 use Rattle.ns_machine_returns.specs.Acting.{IsTopmost}

@@ -1,11 +1,11 @@
 use Rattle.std.proofs.Common.{◌≡◌, subst}
-use Rattle.ns_actions.specs.declared.site.Site.{Site}
-use Rattle.ns_actions.specs.declared.control.Exit.TheVariants as exit
-use Rattle.ns_actions.specs.Control.{Progress, in_world}
-use Rattle.ns_actions.specs.Classes.{body_ended}
-use Rattle.ns_actions.specs.Shown.{answer_shown, exit_shown}
-use Rattle.ns_actions.specs.declared.running.Running.{Running}
-use Rattle.ns_actions.specs.Running.{activation_at}
+use Rattle.ns_moves.specs.declared.site.Site.{Site}
+use Rattle.ns_moves.specs.declared.control.Exit.TheVariants as exit
+use Rattle.ns_moves.specs.Control.{Progress, in_world}
+use Rattle.ns_moves.specs.Classes.{body_ended}
+use Rattle.ns_moves.specs.Shown.{answer_shown, exit_shown}
+use Rattle.ns_moves.specs.declared.running.Running.{Running}
+use Rattle.ns_moves.specs.Running.{activation_at}
 use Rattle.ns_machine_returns.proofs.Left.{left_takes}
 use Rattle.ns_machine_returns.proofs.Clauses.{clause_room, clause_after, clause_over}
 use Rattle.ns_machine_returns.proofs.ending.end_clause.Goals as goal

@@ -1,6 +1,6 @@
 use Rattle.std.proofs.Common.{◌≡◌, ◌+◌, ◌∙◌, ap, sym, subst, arith}
 use Rattle.ns_world.specs.World.{WorldView}
-use Rattle.ns_actions.specs.Control.{in_world}
+use Rattle.ns_moves.specs.Control.{in_world}
 use Rattle.ns_machine_returns.proofs.GivenBack.{one_more_ended, less_depth}
 use Rattle.ns_machine_returns.proofs.homes.give_back.Goals as goal
 

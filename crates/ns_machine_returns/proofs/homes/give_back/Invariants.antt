@@ -1,6 +1,6 @@
 use Rattle.std.proofs.Common.{◌≡◌, ◌+◌}
-use Rattle.ns_actions.specs.Control.{Progress, in_world}
-use Rattle.ns_actions.specs.Room.{SameRest}
+use Rattle.ns_moves.specs.Control.{Progress, in_world}
+use Rattle.ns_moves.specs.Room.{SameRest}
 use Rattle.ns_machine_frames.specs.Stated.{parts_ended}
 use Rattle.ns_machine_returns.proofs.homes.give_back.Given as goal
 

@@ -1,6 +1,6 @@
-use Rattle.ns_actions.specs.Bodies.{side_of_body}
-use Rattle.ns_actions.specs.Sends.{ToSuper, found_at}
-use Rattle.ns_actions.specs.Running.{code_of}
+use Rattle.ns_moves.specs.Bodies.{side_of_body}
+use Rattle.ns_moves.specs.Sends.{ToSuper, found_at}
+use Rattle.ns_moves.specs.Running.{code_of}
 use Rattle.ns_machine_frames.specs.View.{site_shown}
 use Rattle.ns_machine_sends.specs.Sending.{looked_up}
 use Rattle.ns_machine_sends.specs.laws.Looked.{answer_goes, answer_sends}

@@ -1,11 +1,11 @@
 use Rattle.std.proofs.Common.{◌≡◌, sym, subst}
 use Rattle.ns_world.specs.declared.value.Value.{Value}
-use Rattle.ns_actions.specs.Answered.{answered_shown, answered}
-use Rattle.ns_actions.specs.Run.{progress_of}
+use Rattle.ns_moves.specs.Answered.{answered_shown, answered}
+use Rattle.ns_moves.specs.Run.{progress_of}
 use Rattle.ns_machine_core.specs.Shown.{progress_in}
-use Rattle.ns_actions.specs.Bodies.{enclosing, side_at}
-use Rattle.ns_actions.specs.Sends.{ToPrivate, found_at}
-use Rattle.ns_actions.specs.Running.{code_of}
+use Rattle.ns_moves.specs.Bodies.{enclosing, side_at}
+use Rattle.ns_moves.specs.Sends.{ToPrivate, found_at}
+use Rattle.ns_moves.specs.Running.{code_of}
 use Rattle.ns_machine_frames.specs.View.{site_shown}
 use Rattle.ns_machine_sends.specs.Sending.{looked_up}
 use Rattle.ns_machine_sends.specs.laws.Looked.{answer_goes, answer_sends}

@@ -2,9 +2,9 @@ use Rattle.std.proofs.Common.{◌-◌, ℕ, ap, sym, subst, arith}
 use Rattle.ns_code.specs.declared.instruction.Instr.TheVariants as instr
 use Rattle.ns_world.specs.declared.value.Value.{Value}
 use Rattle.ns_world.specs.Lawful.{IsLiveValue}
-use Rattle.ns_actions.specs.Bodies.{Place}
-use Rattle.ns_actions.specs.Sends.{ToPrivate}
-use Rattle.ns_actions.specs.Running.{code_of, nowhere}
+use Rattle.ns_moves.specs.Bodies.{Place}
+use Rattle.ns_moves.specs.Sends.{ToPrivate}
+use Rattle.ns_moves.specs.Running.{code_of, nowhere}
 use Rattle.ns_machine_sends.specs.Sending.{sent_at, Sends}
 use Rattle.ns_machine_sends.specs.Operands.{SendsOperands}
 use Rattle.ns_machine_sends.specs.laws.Selves.{own_sent, can_send_own, private_operands, here_fits, here_lawful, level_there, private_does}

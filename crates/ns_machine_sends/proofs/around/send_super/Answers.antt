@@ -1,7 +1,7 @@
 use Rattle.std.proofs.Common.{◌-◌, ℕ, sym, subst, arith}
 use Rattle.ns_code.specs.declared.instruction.Instr.TheVariants as instr
-use Rattle.ns_actions.specs.Sends.{ToSuper}
-use Rattle.ns_actions.specs.Running.{code_of}
+use Rattle.ns_moves.specs.Sends.{ToSuper}
+use Rattle.ns_moves.specs.Running.{code_of}
 use Rattle.ns_machine_sends.specs.Sending.{sent_at, Sends}
 use Rattle.ns_machine_sends.specs.Operands.{SendsOperands}
 use Rattle.ns_machine_sends.specs.laws.Selves.{own_sent, can_send_own, here_fits}

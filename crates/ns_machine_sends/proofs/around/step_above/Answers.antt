@@ -1,6 +1,6 @@
 use Rattle.std.proofs.Common.{refl}
-use Rattle.ns_actions.specs.Sends.{ToSuper}
-use Rattle.ns_actions.specs.Running.{code_of}
+use Rattle.ns_moves.specs.Sends.{ToSuper}
+use Rattle.ns_moves.specs.Running.{code_of}
 use Rattle.ns_machine_sends.specs.laws.Stepped.{step_goes, step_sends}
 use Rattle.ns_machine_sends.proofs.Selves.{step_fits}
 use Rattle.ns_machine_sends.proofs.around.step_above.Goals as goal

@@ -1,8 +1,8 @@
 use Rattle.std.proofs.Common.{sym, ap, ◌∙◌}
 use Rattle.ns_world.specs.Heap.{Heap}
 use Rattle.ns_world.specs.World.{World}
-use Rattle.ns_actions.specs.Sends.{ToPrivate, receiver_of}
-use Rattle.ns_actions.specs.Running.{code_of}
+use Rattle.ns_moves.specs.Sends.{ToPrivate, receiver_of}
+use Rattle.ns_moves.specs.Running.{code_of}
 use Rattle.ns_machine_core.specs.laws.Charged.{step_is}
 use Rattle.ns_machine_sends.specs.laws.Stepped.{step_goes, step_sends}
 use Rattle.ns_machine_sends.proofs.Selves.{step_fits}

@@ -1,7 +1,7 @@
 use Rattle.std.proofs.Common.{refl}
 use Rattle.ns_world.specs.declared.value.Value.TheVariants.{Ref}
-use Rattle.ns_actions.specs.declared.control.Exit.TheVariants as exit
-use Rattle.ns_actions.specs.declared.control.Reached.TheVariants as reached
+use Rattle.ns_moves.specs.declared.control.Exit.TheVariants as exit
+use Rattle.ns_moves.specs.declared.control.Reached.TheVariants as reached
 use Rattle.ns_machine_core.specs.declared.state.Next.TheVariants.{On}
 use Rattle.ns_machine_sends.specs.Going.{arguments_in}
 use Rattle.ns_machine_sends.proofs.AtOnce.{block_evaluated}

@@ -1,4 +1,4 @@
-use Rattle.ns_actions.specs.Bodies.{greatest_of}
+use Rattle.ns_moves.specs.Bodies.{greatest_of}
 use Rattle.ns_machine_core.specs.declared.state.Next.TheVariants.{On}
 use Rattle.ns_machine_sends.proofs.EnteredKept.{kept_fit, placed_left, placed_goes, placed_taken, placed_arrives}
 use Rattle.ns_machine_sends.proofs.entering.enter_beside.Goals as goal

@@ -1,5 +1,5 @@
 use Rattle.std.proofs.Common.{◌∙◌, length, refl}
-use Rattle.ns_actions.specs.Control.{in_world}
+use Rattle.ns_moves.specs.Control.{in_world}
 use Rattle.ns_machine_sends.specs.laws.Opened.{block_opens, room_later}
 use Rattle.ns_machine_sends.proofs.opening.open_block.Goals as goal
 

@@ -1,4 +1,4 @@
-use Rattle.ns_actions.specs.Run.{progress_of}
+use Rattle.ns_moves.specs.Run.{progress_of}
 use Rattle.ns_machine_sends.specs.laws.Opened.{method_opens}
 use Rattle.ns_machine_sends.proofs.opening.open_method.Goals as goal
 

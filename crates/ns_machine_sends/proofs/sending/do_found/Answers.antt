@@ -1,9 +1,9 @@
 use Rattle.std.proofs.Common.{◌≡◌, sym, subst}
 use Rattle.ns_find.specs.declared.found.Found.{Found}
-use Rattle.ns_actions.specs.Sends.{To, answered_by}
-use Rattle.ns_actions.specs.Suiting.{FoundSuits}
-use Rattle.ns_actions.specs.Answered.{answered_shown}
-use Rattle.ns_actions.specs.Run.{progress_of}
+use Rattle.ns_moves.specs.Sends.{To, answered_by}
+use Rattle.ns_moves.specs.Suiting.{FoundSuits}
+use Rattle.ns_moves.specs.Answered.{answered_shown}
+use Rattle.ns_moves.specs.Run.{progress_of}
 use Rattle.ns_machine_frames.specs.View.{site_shown}
 use Rattle.ns_machine_core.specs.Shown.{progress_in}
 use Rattle.ns_machine_sends.specs.Sending.{looked_up}

@@ -1,4 +1,4 @@
-use Rattle.ns_actions.specs.Sends.{To}
+use Rattle.ns_moves.specs.Sends.{To}
 use Rattle.ns_machine_sends.proofs.Looked.{looked_can, looked_goes, looked_found, looked_sends}
 use Rattle.ns_machine_sends.proofs.sending.look_up.Goals as goal
 

@@ -1,5 +1,5 @@
 use Rattle.std.proofs.Common.{refl}
-use Rattle.ns_actions.specs.Sends.{To}
+use Rattle.ns_moves.specs.Sends.{To}
 use Rattle.ns_machine_sends.specs.laws.Stepped.{step_goes, step_sends}
 use Rattle.ns_machine_sends.proofs.sending.send_to.Goals as goal
 

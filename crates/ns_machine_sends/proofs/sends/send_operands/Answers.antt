@@ -1,5 +1,5 @@
 use Rattle.std.proofs.Common.{◌+◌, ◌-◌, ℕ, ap, sym, subst, arith}
-use Rattle.ns_actions.specs.Sends.{To}
+use Rattle.ns_moves.specs.Sends.{To}
 use Rattle.ns_machine_frames.specs.declared.registers.Registers.{Registers}
 use Rattle.ns_machine_frames.specs.Stack.{stood}
 use Rattle.ns_machine_sends.specs.Sending.{CanSend, sent_at, Sends}

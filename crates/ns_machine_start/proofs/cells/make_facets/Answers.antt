@@ -2,7 +2,7 @@ use Rattle.std.proofs.Common.{[], ◌∷◌, ◌++◌}
 use Rattle.std.proofs.lemmas.Result.{err_from_is_err_and}
 use Rattle.ns_world.specs.declared.cell.FacetKind.TheVariants as facet
 use Rattle.ns_world.specs.Cell.{FacetCell}
-use Rattle.ns_actions.specs.Start.{facet_if}
+use Rattle.ns_moves.specs.Start.{facet_if}
 use Rattle.ns_machine_start.proofs.Made.{both_made, both_stopped}
 use Rattle.ns_machine_start.proofs.cells.make_facets.Goals as goal
 

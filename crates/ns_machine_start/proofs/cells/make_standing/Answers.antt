@@ -1,6 +1,6 @@
 use Rattle.std.proofs.Common.{subst}
 use Rattle.std.proofs.lemmas.Result.{err_from_is_err_and}
-use Rattle.ns_actions.specs.Start.{facets_of, tops_of}
+use Rattle.ns_moves.specs.Start.{facets_of, tops_of}
 use Rattle.ns_machine_start.specs.Making.{CellsAreMade}
 use Rattle.ns_machine_start.proofs.Made.{both_made, both_stopped}
 use Rattle.ns_machine_start.proofs.cells.make_standing.Goals as goal

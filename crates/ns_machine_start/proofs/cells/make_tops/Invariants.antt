@@ -1,5 +1,5 @@
 use Rattle.std.proofs.Common.{take, Ok}
-use Rattle.ns_actions.specs.Start.{tops_of}
+use Rattle.ns_moves.specs.Start.{tops_of}
 use Rattle.ns_machine_start.specs.Making.{CellsAreMade}
 use Rattle.ns_machine_start.proofs.cells.make_tops.Given as goal
 

@@ -1,8 +1,8 @@
 use Rattle.std.proofs.Common.{◌∙◌, ap, sym}
 use Rattle.ns_world.specs.declared.value.Value.TheVariants.{Nil}
 use Rattle.ns_world.specs.World.{World}
-use Rattle.ns_actions.specs.Control.{in_world}
-use Rattle.ns_actions.specs.Start.{all_made, start_cells, nothing_done}
+use Rattle.ns_moves.specs.Control.{in_world}
+use Rattle.ns_moves.specs.Start.{all_made, start_cells, nothing_done}
 use Rattle.ns_machine_start.proofs.start.make_start.Goals as goal
 
 pub returns-clause-made : goal.returns-clause-made

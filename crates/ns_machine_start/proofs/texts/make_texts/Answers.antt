@@ -3,7 +3,7 @@ use Rattle.std.proofs.lemmas.Result.{err_from_is_err_and}
 use Rattle.ns_world.specs.declared.value.Value.TheVariants.{Ref}
 use Rattle.ns_world.specs.Cell.{TextCell}
 use Rattle.ns_world.specs.Heap.{heap_size}
-use Rattle.ns_actions.specs.Start.{size_of_cells}
+use Rattle.ns_moves.specs.Start.{size_of_cells}
 use Rattle.ns_machine_start.proofs.Listed.{text_made, text_stopped, one_more_refers}
 use Rattle.ns_machine_start.proofs.texts.make_texts.Goals as goal
 

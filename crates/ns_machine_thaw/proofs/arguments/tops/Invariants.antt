@@ -1,5 +1,5 @@
 use Rattle.std.proofs.Common.{◌≡◌, ◌+◌, ◌≤◌, length, drop}
-use Rattle.ns_actions.specs.Start.{tops_of}
+use Rattle.ns_moves.specs.Start.{tops_of}
 use Rattle.ns_machine_thaw.proofs.arguments.tops.Given as goal
 
 abbrev pub invariant-classes : goal.invariant-classes

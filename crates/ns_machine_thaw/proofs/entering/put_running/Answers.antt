@@ -1,6 +1,6 @@
 use Rattle.std.proofs.Common.{◌+◌, List, length, ap, ◌∙◌, subst}
 use Rattle.ns_world.specs.declared.value.Value.{Value}
-use Rattle.ns_actions.specs.Bodies.{height_in, greatest_of}
+use Rattle.ns_moves.specs.Bodies.{height_in, greatest_of}
 use Rattle.ns_machine_frames.specs.declared.calls.BodyShape.{BodyShape}
 use Rattle.ns_machine_frames.specs.declared.registers.Registers.{Registers}
 use Rattle.ns_machine_frames.specs.Standing.{pushed_all}

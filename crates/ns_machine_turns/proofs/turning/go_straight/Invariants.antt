@@ -2,7 +2,7 @@ use Rattle.std.proofs.Common.{◌≡◌, ◌-◌, ◌≤◌}
 use Rattle.ns_machine_core.specs.declared.state.Next.TheVariants.{On}
 use Rattle.ns_machine_core.specs.Shown.{shown}
 use Rattle.ns_machine_core.specs.Straight.{TopRunsBody}
-use Rattle.ns_machine_moves.specs.Falling.{run_left}
+use Rattle.ns_moves.specs.Falling.{run_left}
 use Rattle.ns_machine_turns.specs.Turning.{GoesAlong}
 use Rattle.ns_machine_turns.proofs.turning.go_straight.Given as goal
 

@@ -3,7 +3,7 @@ use Rattle.ns_world.specs.declared.ending.Counters.{Counters}
 use Rattle.ns_machine_core.specs.declared.state.Next.{Next}
 use Rattle.ns_machine_core.specs.declared.state.Next.TheVariants.{On}
 use Rattle.ns_machine_core.specs.Shown.{shown}
-use Rattle.ns_machine_moves.specs.Falling.{run_left}
+use Rattle.ns_moves.specs.Falling.{run_left}
 use Rattle.ns_machine_turns.specs.Turning.{HasGone}
 use Rattle.ns_machine_turns.proofs.Along.{none_gone, gone_since}
 use Rattle.ns_machine_turns.proofs.turning.run_along.Goals as goal

@@ -1,6 +1,6 @@
 use Rattle.std.proofs.Common.{◌≡◌, ◌∙◌, ap, sym, arith, false, inr}
 use Rattle.ns_world.specs.declared.ending.Counters.{Counters}
-use Rattle.ns_machine_moves.specs.Turn.{is_still}
+use Rattle.ns_moves.specs.Turn.{is_still}
 use Rattle.ns_machine_core.specs.Shown.{shown}
 use Rattle.ns_machine_turns.proofs.Turned.{Known, turning_begins, rests_here, ends_here, since_begun, left_is, none_left, spent_on, spent_goes, runs_on, turning_on, not_both}
 use Rattle.ns_machine_turns.proofs.turning.turn.Goals as goal

@@ -1,7 +1,7 @@
 use Rattle.std.proofs.Common.{◌≡◌, ◌⊎◌, true}
-use Rattle.ns_machine_moves.specs.Turn.{is_still}
+use Rattle.ns_moves.specs.Turn.{is_still}
 use Rattle.ns_machine_core.specs.Shown.{shown}
-use Rattle.ns_machine_moves.specs.Falling.{run_left}
+use Rattle.ns_moves.specs.Falling.{run_left}
 use Rattle.ns_machine_turns.specs.Turning.{steps_left, RunsBy, IsTurning}
 use Rattle.ns_machine_turns.proofs.turning.turn.Given as goal
 

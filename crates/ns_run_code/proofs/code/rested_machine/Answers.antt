@@ -3,8 +3,8 @@ use Rattle.ns_code.specs.Fits.{Fits}
 use Rattle.ns_code.specs.declared.program.CodeProgram.{CodeProgram}
 use Rattle.ns_machine.specs.Machine.{MachineView}
 use Rattle.ns_machine.specs.Turning.{Ran}
-use Rattle.ns_machine_moves.specs.Starts.{started}
-use Rattle.ns_machine_moves.specs.State.{State}
+use Rattle.ns_moves.specs.Starts.{started}
+use Rattle.ns_moves.specs.State.{State}
 use Rattle.ns_run_code.specs.Run.{granted}
 use Rattle.ns_run_code.proofs.code.rested_machine.Goals as goal
 use Rattle.ns_verify.specs.Verify.{IsSound}

@@ -1,6 +1,6 @@
 use Rattle.std.proofs.Common.{[], ◌∙◌, ap, subst, sym}
 use Rattle.ns_machine.specs.Machine.{MachineView}
-use Rattle.ns_machine_moves.specs.Starts.{started}
+use Rattle.ns_moves.specs.Starts.{started}
 use Rattle.ns_replay.specs.Replay.{CanBegin}
 use Rattle.ns_run_code.specs.Run.{granted}
 use Rattle.ns_run_replay.proofs.replay.begun.Goals as goal

@@ -1,6 +1,6 @@
 use Rattle.std.proofs.Common.{◌≡◌, ◌∙◌, ap}
 use Rattle.ns_machine.specs.Machine.{MachineView}
-use Rattle.ns_machine_moves.specs.Starts.{started}
+use Rattle.ns_moves.specs.Starts.{started}
 use Rattle.ns_run_code.specs.Machine.{rested, told_at}
 use Rattle.ns_run_snap.proofs.resume.gone_on.Goals as goal
 

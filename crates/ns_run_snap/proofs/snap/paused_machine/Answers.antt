@@ -1,9 +1,9 @@
 use Rattle.std.proofs.Common.{◌≡◌, ◌∙◌, [], ap, subst}
 use Rattle.ns_machine.specs.Machine.{MachineView}
-use Rattle.ns_machine_moves.specs.Starts.{started}
-use Rattle.ns_machine_moves.specs.State.{State}
-use Rattle.ns_machine_moves.specs.Turn.{Turns}
-use Rattle.ns_machine_moves.specs.Valid.{Valid}
+use Rattle.ns_moves.specs.Starts.{started}
+use Rattle.ns_moves.specs.State.{State}
+use Rattle.ns_moves.specs.Turn.{Turns}
+use Rattle.ns_moves.specs.Valid.{Valid}
 use Rattle.ns_run_code.specs.Machine.{begins_with}
 use Rattle.ns_run_code.specs.Run.{granted}
 use Rattle.ns_run_snap.proofs.snap.paused_machine.Goals as goal

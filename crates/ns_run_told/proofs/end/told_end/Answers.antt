@@ -1,6 +1,6 @@
 use Rattle.std.proofs.Common.{◌≡◌, subst, sym, IfOk}
 use Rattle.ns_code.specs.declared.program.CodeProgram.{CodeProgram}
-use Rattle.ns_machine_moves.specs.State.{world_of}
+use Rattle.ns_moves.specs.State.{world_of}
 use Rattle.ns_run_told.specs.Told.{told_end}
 use Rattle.ns_run_told.proofs.end.told_end.Goals as goal
 use Rattle.ns_world.specs.declared.ending.Ending.{Ending}

@@ -3,7 +3,7 @@ use Rattle.ns_code.specs.Fits.{Fits}
 use Rattle.ns_code.specs.declared.program.CodeProgram.{CodeProgram}
 use Rattle.ns_verify.specs.Verify.{IsSound}
 use Rattle.ns_machine.specs.Machine.{MachineView}
-use Rattle.ns_machine_moves.specs.Move.{moves}
+use Rattle.ns_moves.specs.Move.{moves}
 use Rattle.ns_run_code.specs.Run.{granted}
 use Rattle.ns_run_trace.proofs.Standing.{stands_before}
 use Rattle.ns_run_trace.proofs.before.machine_before.Goals as goal

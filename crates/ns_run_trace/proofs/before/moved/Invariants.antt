@@ -1,5 +1,5 @@
 use Rattle.std.proofs.Common.{◌≡◌}
-use Rattle.ns_machine_moves.specs.Move.{moves}
+use Rattle.ns_moves.specs.Move.{moves}
 use Rattle.ns_run_trace.proofs.before.moved.Given as goal
 
 abbrev pub invariant-moves : goal.invariant-moves

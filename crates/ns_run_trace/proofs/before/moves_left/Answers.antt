@@ -1,8 +1,8 @@
 use Rattle.std.proofs.Common.{◌≡◌, ℕ, ap, sym, subst, ◌∙◌, false}
 use Rattle.ns_code.specs.declared.program.CodeProgram.{CodeProgram}
 use Rattle.ns_machine.specs.Machine.{MachineView}
-use Rattle.ns_machine_moves.specs.Move.{move}
-use Rattle.ns_machine_moves.specs.State.{State}
+use Rattle.ns_moves.specs.Move.{move}
+use Rattle.ns_moves.specs.State.{State}
 use Rattle.ns_run_trace.specs.Nearing.{HasMoved}
 use Rattle.ns_run_trace.proofs.Counting.{moved_one}
 use Rattle.ns_run_trace.proofs.before.moves_left.Goals as goal

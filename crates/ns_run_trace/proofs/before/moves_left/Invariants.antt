@@ -1,5 +1,5 @@
 use Rattle.std.proofs.Common.{◌≡◌}
-use Rattle.ns_machine_moves.specs.Falling.{run_left}
+use Rattle.ns_moves.specs.Falling.{run_left}
 use Rattle.ns_run_trace.specs.Nearing.{HasMoved}
 use Rattle.ns_run_trace.proofs.before.moves_left.Given as goal
 

@@ -1,8 +1,8 @@
 use Rattle.std.proofs.Common.{◌≡◌, ◌-◌, ap, subst, ◌∙◌, arith}
 use Rattle.ns_code.specs.declared.program.CodeProgram.{CodeProgram}
 use Rattle.ns_machine.specs.Machine.{MachineView}
-use Rattle.ns_machine_moves.specs.Starts.{started}
-use Rattle.ns_machine_moves.specs.Turn.{Turns}
+use Rattle.ns_moves.specs.Starts.{started}
+use Rattle.ns_moves.specs.Turn.{Turns}
 use Rattle.ns_run_code.specs.Machine.{begins_with}
 use Rattle.ns_run_trace.proofs.Near.{near_turned}
 use Rattle.ns_run_trace.proofs.Standing.{at_state}

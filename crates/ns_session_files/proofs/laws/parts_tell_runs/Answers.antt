@@ -1,5 +1,5 @@
 use Rattle.std.proofs.Common.{refl, sym}
-use Rattle.ns_machine_moves.specs.State.{ending_of, world_of}
+use Rattle.ns_moves.specs.State.{ending_of, world_of}
 use Rattle.ns_run_code.specs.Machine.{end_of}
 use Rattle.ns_session_files.proofs.laws.parts_tell_runs.Goals as goal
 

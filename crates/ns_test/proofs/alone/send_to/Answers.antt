@@ -2,8 +2,8 @@ use Rattle.std.proofs.Common.{◌≡◌, [], ap, ◌∙◌}
 use Rattle.ns_base.specs.declared.selector.Sel.{Sel}
 use Rattle.ns_machine.specs.Asking.{named}
 use Rattle.ns_machine.specs.Machine.{MachineView}
-use Rattle.ns_machine_moves.specs.Starts.{begun}
-use Rattle.ns_machine_moves.specs.State.{State}
+use Rattle.ns_moves.specs.Starts.{begun}
+use Rattle.ns_moves.specs.State.{State}
 use Rattle.ns_run_code.specs.Machine.{rested}
 use Rattle.ns_test.proofs.alone.send_to.Goals as goal
 

@@ -1,7 +1,7 @@
 use Rattle.std.proofs.Common.{ap, subst}
 use Rattle.std.proofs.lemmas.Result.{IfOk-weaker}
 use Rattle.ns_machine.specs.Machine.{MachineView}
-use Rattle.ns_machine_moves.specs.State.{State}
+use Rattle.ns_moves.specs.State.{State}
 use Rattle.ns_test.specs.Stated.{AnswersClass, AnswersFault}
 use Rattle.ns_test.proofs.tests.open.Goals as goal
 

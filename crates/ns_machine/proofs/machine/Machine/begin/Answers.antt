@@ -1,9 +1,9 @@
 use Rattle.std.proofs.Common.{[], ap, sym, subst, ◌∙◌}
 use Rattle.ns_code.specs.declared.program.CodeProgram.{CodeProgram}
 use Rattle.ns_world.specs.Lawful.{IsLawful}
-use Rattle.ns_machine_moves.specs.Beginning.{MayBegin}
-use Rattle.ns_machine_moves.specs.State.{State}
-use Rattle.ns_machine_moves.specs.Starts.{begun}
+use Rattle.ns_moves.specs.Beginning.{MayBegin}
+use Rattle.ns_moves.specs.State.{State}
+use Rattle.ns_moves.specs.Starts.{begun}
 use Rattle.ns_machine_plan.specs.Steps.{no_place}
 use Rattle.ns_machine_core.specs.declared.state.Phase.TheVariants.{Hosted}
 use Rattle.std.specs.List.{slice_get}

@@ -2,7 +2,7 @@ use Rattle.std.proofs.Common.{◌≡◌, ap, ◌∙◌, subst, sym, true, length
 use Rattle.std.specs.List.{list_all}
 use Rattle.ns_code.specs.declared.program.CodeProgram.{CodeProgram}
 use Rattle.ns_world.specs.World.{World}
-use Rattle.ns_machine_moves.specs.State.{is_idle, world_of}
+use Rattle.ns_moves.specs.State.{is_idle, world_of}
 use Rattle.ns_machine.specs.Asking.{named, HasSelector, MayAsk}
 use Rattle.ns_machine.specs.Living.{is_live_value}
 use Rattle.ns_machine.proofs.LiveTest.{live_told, all_told}

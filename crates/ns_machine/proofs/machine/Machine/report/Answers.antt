@@ -1,9 +1,9 @@
 use Rattle.std.proofs.Common.{ap, sym, subst, ◌∙◌}
 use Rattle.ns_code.specs.declared.program.CodeProgram.{CodeProgram}
 use Rattle.ns_world.specs.Lawful.{IsLawful}
-use Rattle.ns_actions.specs.Control.{Progress}
-use Rattle.ns_actions.specs.Report.{report_line}
-use Rattle.ns_machine_moves.specs.State.{world_of}
+use Rattle.ns_moves.specs.Control.{Progress}
+use Rattle.ns_moves.specs.Report.{report_line}
+use Rattle.ns_moves.specs.State.{world_of}
 use Rattle.ns_machine.specs.Machine.{MachineView}
 use Rattle.ns_machine.proofs.Standing.{stage_lawful, stage_progress}
 use Rattle.ns_machine.proofs.machine.Machine.report.Goals as goal

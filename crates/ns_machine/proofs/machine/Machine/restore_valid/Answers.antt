@@ -2,7 +2,7 @@ use Rattle.std.proofs.Common.{length, ap, sym, subst, ◌∙◌}
 use Rattle.ns_code.specs.declared.program.CodeProgram.{CodeProgram}
 use Rattle.ns_code.specs.Fits.{Fits}
 use Rattle.ns_verify.specs.Verify.{IsSound}
-use Rattle.ns_machine_moves.specs.State.{world_of}
+use Rattle.ns_moves.specs.State.{world_of}
 use Rattle.ns_frozen.specs.Fault.{IsValid}
 use Rattle.ns_machine_core.specs.Own.{AreOwn}
 use Rattle.ns_machine_thaw.specs.Thawed.{IsThawed}

@@ -1,8 +1,8 @@
 use Rattle.std.proofs.Common.{◌∙◌, sym, subst}
 use Rattle.ns_code.specs.declared.program.CodeProgram.{CodeProgram}
-use Rattle.ns_machine_moves.specs.Starts.{started}
-use Rattle.ns_machine_moves.specs.Valid.{Valid}
-use Rattle.ns_machine_moves.specs.Living.{KeepsLive}
+use Rattle.ns_moves.specs.Starts.{started}
+use Rattle.ns_moves.specs.Valid.{Valid}
+use Rattle.ns_moves.specs.Living.{KeepsLive}
 use Rattle.ns_machine_core.specs.Ready.{MachineIsReady}
 use Rattle.ns_machine_core.specs.Shown.{shown}
 use Rattle.ns_machine_core.specs.declared.state.Next.TheVariants as next

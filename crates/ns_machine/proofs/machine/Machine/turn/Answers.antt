@@ -1,8 +1,8 @@
 use Rattle.std.proofs.Common.{◌≡◌, ◌+◌, zero, true, false, refl, arith, subst, sym, inr}
 use Rattle.ns_code.specs.declared.program.CodeProgram.{CodeProgram}
-use Rattle.ns_machine_moves.specs.Turn.{is_still, Turns}
-use Rattle.ns_machine_moves.specs.Valid.{Valid}
-use Rattle.ns_machine_moves.specs.Living.{KeepsLive}
+use Rattle.ns_moves.specs.Turn.{is_still, Turns}
+use Rattle.ns_moves.specs.Valid.{Valid}
+use Rattle.ns_moves.specs.Living.{KeepsLive}
 use Rattle.ns_machine_reach.specs.Reached.{StaysInReach}
 use Rattle.ns_machine_alike.specs.Underway.{GoesOnAlike}
 use Rattle.ns_machine_core.specs.Shown.{shown}

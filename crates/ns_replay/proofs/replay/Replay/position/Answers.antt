@@ -1,5 +1,5 @@
 use Rattle.std.proofs.Common.{ap, subst, arith}
-use Rattle.ns_machine_moves.specs.laws.Worlds.{valid_lawful}
+use Rattle.ns_moves.specs.laws.Worlds.{valid_lawful}
 use Rattle.ns_replay.proofs.replay.Replay.position.Goals as goal
 use Rattle.ns_replay.specs.Laws.{IsLeast}
 use Rattle.ns_replay.specs.Replay.{ReplayView}

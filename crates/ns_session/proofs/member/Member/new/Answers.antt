@@ -1,7 +1,7 @@
 use Rattle.std.proofs.Common.{ap, subst, ◌∙◌}
 use Rattle.ns_code.specs.Fits.{Fits}
 use Rattle.ns_verify.specs.Verify.{IsSound}
-use Rattle.ns_machine_moves.specs.Starts.{started}
+use Rattle.ns_moves.specs.Starts.{started}
 use Rattle.ns_machine.specs.Machine.{MachineView}
 use Rattle.ns_session.specs.Member.{Application}
 use Rattle.ns_session.proofs.Keeping.{kept_start}

@@ -1,6 +1,0 @@
-use Rattle.std.proofs.Common.{ap}
-use Rattle.ns_actions.specs.Bodies.{Place}
-use Rattle.ns_actions.proofs.enclosing.enclosing_object.Goals as goal
-
-pub returns-then-level-lt-FAR-clause-object : goal.returns-then-level-lt-FAR-clause-object
-returns-then-level-lt-FAR-clause-object c site = ap (λ (p : Place). p.object) (c.enclosing.ensures site)

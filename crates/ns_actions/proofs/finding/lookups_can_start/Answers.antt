@@ -1,9 +1,0 @@
-use Rattle.ns_world.specs.laws.Starts.{class_named}
-use Rattle.ns_actions.proofs.FoundThere.{start_there}
-use Rattle.ns_actions.proofs.finding.lookups_can_start.Goals as goal
-
-pub returns-clause-start : goal.returns-clause-start
-returns-clause-start c = start_there
-
-pub returns-clause-class : goal.returns-clause-class
-returns-clause-class c = class_named

@@ -1,5 +1,0 @@
-use Rattle.ns_actions.proofs.Handing.{action_hands_on}
-use Rattle.ns_actions.proofs.laws.what_is_handed_on_fits.Goals as goal
-
-pub returns : goal.returns
-returns c = action_hands_on

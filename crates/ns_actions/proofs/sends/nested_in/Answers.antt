@@ -1,4 +1,0 @@
-use Rattle.ns_actions.proofs.sends.nested_in.Goals as goal
-
-pub nested_class-requires-clause-class : goal.nested_class-requires-clause-class
-nested_class-requires-clause-class c = c.requires.class c.in-Ref.object c.in-Ref.is

@@ -1,5 +1,0 @@
-use Rattle.ns_machine_moves.proofs.Bounded.{left_bounded}
-use Rattle.ns_machine_moves.proofs.falling.left_is_bounded.Goals as goal
-
-pub returns : goal.returns
-returns c = left_bounded

@@ -1,5 +1,0 @@
-use Rattle.ns_machine_moves.proofs.Swapping.{swaps_valid}
-use Rattle.ns_machine_moves.proofs.valid_world.swaps_keep_valid.Goals as goal
-
-pub returns : goal.returns
-returns c = swaps_valid

@@ -1,2 +1,0 @@
--- Lemmas on which the laws rest. No other crate cites them.
-pub mod Powers

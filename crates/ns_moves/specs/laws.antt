@@ -1,0 +1,26 @@
+-- Laws of these definitions, for the crates above.
+pub mod Adding
+pub mod AddingOn
+pub mod BlocksOnward
+pub mod ClassesOnward
+pub mod Counting
+pub mod Ending
+pub mod Growing
+pub mod LawfulBlocks
+pub mod LawfulParts
+pub mod LawfulSends
+pub mod LawfulValues
+pub mod LeadingOn
+pub mod Onward
+pub mod OwnSelectors
+pub mod SendsOnward
+pub mod SentFrom
+pub mod Sites
+pub mod Spending
+pub mod Frames
+pub mod Levels
+pub mod Operands
+pub mod Steps
+pub mod Still
+pub mod Worlds
+pub mod Doubling
