@@ -1,11 +1,9 @@
 //! A machine for a text in memory.
 
 use ns_base::limits::Limits;
-use ns_base::mem_shelf::MemShelf;
-use ns_base::shelf::Shelf;
 use ns_facets::row::Grants;
 use ns_machine::machine::Machine;
-use ns_session_files::source::code_of_files;
+use ns_session_files::text::code_of_text;
 use ns_verify::verify::Verified;
 use std::alloc::Global;
 
@@ -36,7 +34,5 @@ pub fn machine_of(alloc: Global, source: &str) -> Option<Machine> {
 
 /// The code of a text, which is the one file of its program.
 pub fn code(alloc: Global, source: &str) -> Option<Verified> {
-    let mut shelf = MemShelf::new(alloc, Vec::new(alloc));
-    shelf.store("Plugin.ns", source.as_bytes()).ok()?;
-    code_of_files(alloc, "Plugin.ns", false, &mut shelf).ok()
+    code_of_text(alloc, "Plugin.ns", source, false).ok()
 }

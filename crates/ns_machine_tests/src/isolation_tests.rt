@@ -3,13 +3,9 @@
 
 use crate::sources::{HEAD, MODULES, TAIL};
 use ns_base::limits::Limits;
-use ns_base::mem_shelf::MemShelf;
-use ns_base::no_memory::NoMemory;
-use ns_base::text::Text;
 use ns_facets::row::Grants;
 use ns_machine::machine::Machine;
-use ns_run_words::application::application_of;
-use ns_session_files::source::code_of;
+use ns_session_files::text::code_of_text;
 use ns_verify::verify::Verified;
 use ns_world::ending::{Counters, Ending};
 use ns_world::value::Value;
@@ -212,18 +208,8 @@ fn machine(alloc: Global, module: &str, limits: Limits) -> Option<Machine> {
 }
 
 fn code(alloc: Global, module: &str) -> Option<Verified> {
-    match (application_of("=T.ns"), shelf(alloc, module)) {
-        (Some(asked), Ok(mut shelf)) => code_of(alloc, asked, false, &mut shelf).ok(),
-        _ => None,
-    }
-}
-
-/// A shelf of one file, which has the source of a module.
-fn shelf(alloc: Global, module: &str) -> Result<MemShelf, NoMemory> {
-    let mut source = HEAD.as_bytes().to_vec(alloc)?;
-    source.extend_from_slice(module.as_bytes())?;
-    source.extend_from_slice(TAIL.as_bytes())?;
-    let mut files = Vec::new(alloc);
-    files.push((Text::of(alloc, b"T.ns")?, source))?;
-    Ok(MemShelf::new(alloc, files))
+    let mut source = String::from_str(alloc, HEAD).ok()?;
+    source.push_str(module).ok()?;
+    source.push_str(TAIL).ok()?;
+    code_of_text(alloc, "T.ns", source.as_str(), false).ok()
 }

@@ -1,8 +1,6 @@
 //! Actors of one program: what is told of them, as text and in JSON, and what is refused.
 
-use crate::command::{Setting, Want, leaves};
-use ns_base::no_memory::NoMemory;
-use std::alloc::Global;
+use crate::command::{Failing, Row, all_end_so, first_other};
 
 /// One whose letters count down, and whose other selectors lead to each way to stop.
 const COUNTS: &[u8] = b"class P packageUsing: m = () (
@@ -45,9 +43,6 @@ const FILES: &[(&str, &[u8])] = &[
     ("Late.ns", LATE),
     ("Empty.ns", b""),
 ];
-
-/// The words of a command, and what it leaves.
-type Row = (&'static [&'static str], Want);
 
 /// Those whose actors all rest.
 const RESTING: &[Row] = &[
@@ -218,44 +213,62 @@ const STOPPING: &[Row] = &[
 ];
 
 /// Those whose words are bad, by the number of the first that is.
-const BAD_WORDS: &[(&[&str], &str)] = &[
-    (&["actors"], "nspk: bad word 1\n"),
-    (&["actors", "1"], "nspk: bad word 2\n"),
-    (&["actors", "1", "hit:"], "nspk: bad word 3\n"),
-    (&["actors", "1", "hit:", "3"], "nspk: bad word 4\n"),
-    (&["actors", "0", "hit:", "3", "P.ns"], "nspk: bad word 1\n"),
-    (&["actors", "17", "hit:", "3", "P.ns"], "nspk: bad word 1\n"),
-    (&["actors", "01", "hit:", "3", "P.ns"], "nspk: bad word 1\n"),
-    (&["actors", "2", "hit", "3", "P.ns"], "nspk: bad word 2\n"),
+const BAD_WORDS: &[Row] = &[
+    (&["actors"], ("", "nspk: bad word 1\n", 2)),
+    (&["actors", "1"], ("", "nspk: bad word 2\n", 2)),
+    (&["actors", "1", "hit:"], ("", "nspk: bad word 3\n", 2)),
+    (&["actors", "1", "hit:", "3"], ("", "nspk: bad word 4\n", 2)),
+    (
+        &["actors", "0", "hit:", "3", "P.ns"],
+        ("", "nspk: bad word 1\n", 2),
+    ),
+    (
+        &["actors", "17", "hit:", "3", "P.ns"],
+        ("", "nspk: bad word 1\n", 2),
+    ),
+    (
+        &["actors", "01", "hit:", "3", "P.ns"],
+        ("", "nspk: bad word 1\n", 2),
+    ),
+    (
+        &["actors", "2", "hit", "3", "P.ns"],
+        ("", "nspk: bad word 2\n", 2),
+    ),
     (
         &["actors", "2", "at:put:", "3", "P.ns"],
-        "nspk: bad word 2\n",
+        ("", "nspk: bad word 2\n", 2),
     ),
-    (&["actors", "2", "hit:", "03", "P.ns"], "nspk: bad word 3\n"),
-    (&["actors", "2", "hit:", "-0", "P.ns"], "nspk: bad word 3\n"),
+    (
+        &["actors", "2", "hit:", "03", "P.ns"],
+        ("", "nspk: bad word 3\n", 2),
+    ),
+    (
+        &["actors", "2", "hit:", "-0", "P.ns"],
+        ("", "nspk: bad word 3\n", 2),
+    ),
     (
         &["actors", "2", "hit:", "9223372036854775808", "P.ns"],
-        "nspk: bad word 3\n",
+        ("", "nspk: bad word 3\n", 2),
     ),
     (
         &["actors", "2", "hit:", "-9223372036854775809", "P.ns"],
-        "nspk: bad word 3\n",
+        ("", "nspk: bad word 3\n", 2),
     ),
     (
         &["actors", "2", "--steps=5", "hit:", "3", "P.ns"],
-        "nspk: bad word 2\n",
+        ("", "nspk: bad word 2\n", 2),
     ),
     (
         &["actors", "--cells=4000001", "2", "hit:", "3", "P.ns"],
-        "nspk: bad word 1\n",
+        ("", "nspk: bad word 1\n", 2),
     ),
     (
         &["actors", "--depth=10001", "2", "hit:", "3", "P.ns"],
-        "nspk: bad word 1\n",
+        ("", "nspk: bad word 1\n", 2),
     ),
     (
         &["actors", "2", "hit:", "3", "P.ns", "--", "x"],
-        "nspk: bad word 5\n",
+        ("", "nspk: bad word 5\n", 2),
     ),
 ];
 
@@ -283,45 +296,27 @@ const REFUSED: &[Row] = &[
     ),
 ];
 
+/// A file that can't be read, and an output that takes no more.
+const FAILING: &[Failing] = &[
+    Failing {
+        words: &["actors", "2", "hit:", "3", "P.ns"],
+        shelf: &[0],
+        out: &[],
+        err: &[],
+        want: ("", "", 4),
+    },
+    Failing {
+        words: &["actors", "2", "hit:", "3", "P.ns"],
+        shelf: &[],
+        out: &[(0, 9)],
+        err: &[],
+        want: ("actor 0 t", "", 5),
+    },
+];
+
 #[test]
 fn actors_leave_what_they_mean(rt: HostRuntime) {
-    for rows in [RESTING, STOPPING, REFUSED] {
-        assert_eq!(rt; first_other(rt.alloc(), rows), None);
-    }
-    for (words, line) in BAD_WORDS {
-        assert!(rt; leaves(rt.alloc(), FILES, words, ("", line, 2)));
-    }
-}
-
-/// The first command that leaves something else.
-fn first_other(alloc: Global, rows: &[Row]) -> Option<&'static [&'static str]> {
-    for (words, want) in rows {
-        if !leaves(alloc, FILES, words, *want) {
-            return Some(words);
-        }
-    }
-    None
-}
-
-#[test]
-fn a_fault_ends_actors(rt: HostRuntime) {
-    assert!(rt; fails_so(rt.alloc(), Some(0), None, ("", "", 4)) == Ok(true));
-    assert!(rt; fails_so(rt.alloc(), None, Some(9), ("actor 0 t", "", 5)) == Ok(true));
-}
-
-/// Whether actors leave that where this call of the shelf fails, or `out` takes no more than so many bytes.
-fn fails_so(
-    alloc: Global,
-    load: Option<u64>,
-    most: Option<u64>,
-    want: Want,
-) -> Result<bool, NoMemory> {
-    let mut setting = Setting::of(alloc, FILES)?;
-    if let Some(load) = load {
-        setting.shelf.fail_at.push(load)?;
-    }
-    if let Some(most) = most {
-        setting.out.fail_at.push((0, most))?;
-    }
-    Ok(setting.leaves(alloc, &["actors", "2", "hit:", "3", "P.ns"], want))
+    let tables = [RESTING, STOPPING, BAD_WORDS, REFUSED];
+    assert_eq!(rt; first_other(rt.alloc(), FILES, &tables), None);
+    assert!(rt; all_end_so(rt.alloc(), FILES, FAILING));
 }

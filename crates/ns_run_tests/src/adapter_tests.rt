@@ -59,9 +59,7 @@ const LOADED: &[Loaded] = &[
 
 #[test]
 fn files_are_loaded(rt: HostRuntime) {
-    for row in LOADED {
-        assert!(rt; loads(rt.alloc(), row));
-    }
+    assert!(rt; LOADED.iter().all(|row| loads(rt.alloc(), row)));
 }
 
 fn loads(alloc: Global, row: &Loaded) -> bool {
@@ -87,9 +85,7 @@ const STORED: &[(Call, bool, u64)] = &[
 
 #[test]
 fn files_are_stored_or_stay(rt: HostRuntime) {
-    for row in STORED {
-        assert!(rt; stores(rt.alloc(), row));
-    }
+    assert!(rt; STORED.iter().all(|row| stores(rt.alloc(), row)));
 }
 
 /// Whether a store does that, and leaves no draft.
@@ -146,9 +142,7 @@ const TOLD_OF: &[(Call, usize, Status, &str)] = &[
 
 #[test]
 fn a_fault_is_told(rt: HostRuntime) {
-    for row in TOLD_OF {
-        assert!(rt; tells(rt.alloc(), row) == Ok(true));
-    }
+    assert!(rt; TOLD_OF.iter().all(|row| tells(rt.alloc(), row) == Ok(true)));
 }
 
 /// Whether that line is told.
@@ -200,9 +194,7 @@ const READ: &[(&[&[u8]], &[&str], bool)] = &[
 
 #[test]
 fn words_are_read_up_to_one_that_is_no_text(rt: HostRuntime) {
-    for row in READ {
-        assert!(rt; reads(rt.alloc(), row) == Ok(true));
-    }
+    assert!(rt; READ.iter().all(|row| reads(rt.alloc(), row) == Ok(true)));
 }
 
 fn reads(alloc: Global, row: &(&'static [&'static [u8]], &[&str], bool)) -> Result<bool, NoMemory> {

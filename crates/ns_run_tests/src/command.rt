@@ -10,6 +10,19 @@ use std::alloc::Global;
 /// What a command leaves: the bytes of both streams, and its exit status.
 pub type Want = (&'static str, &'static str, u8);
 
+/// The words of a command, and what it leaves.
+pub type Row = (&'static [&'static str], Want);
+
+/// The words of a command, the calls that fail, of the shelf and of each stream with how many bytes it still takes, and what
+/// the command leaves.
+pub struct Failing {
+    pub words: &'static [&'static str],
+    pub shelf: &'static [u64],
+    pub out: &'static [(u64, u64)],
+    pub err: &'static [(u64, u64)],
+    pub want: Want,
+}
+
 /// The files that a command finds, and its streams.
 #[derive(Drop)]
 pub struct Setting {
@@ -56,4 +69,34 @@ pub fn leaves(alloc: Global, files: &[(&str, &[u8])], words: &[&str], want: Want
         Ok(mut setting) => setting.leaves(alloc, words, want),
         Err(_) => false,
     }
+}
+
+/// The words of the first command of some tables that leaves something else, over these files.
+pub fn first_other(
+    alloc: Global,
+    files: &[(&str, &[u8])],
+    tables: &[&[Row]],
+) -> Option<&'static [&'static str]> {
+    for rows in tables {
+        for (words, want) in *rows {
+            if !leaves(alloc, files, words, *want) {
+                return Some(words);
+            }
+        }
+    }
+    None
+}
+
+/// Whether each command leaves what it should where these calls fail, over these files.
+pub fn all_end_so(alloc: Global, files: &[(&str, &[u8])], rows: &[Failing]) -> bool {
+    rows.iter()
+        .all(|row| ends_so(alloc, files, row) == Ok(true))
+}
+
+fn ends_so(alloc: Global, files: &[(&str, &[u8])], row: &Failing) -> Result<bool, NoMemory> {
+    let mut setting = Setting::of(alloc, files)?;
+    setting.shelf.fail_at.extend_from_slice(row.shelf)?;
+    setting.out.fail_at.extend_from_slice(row.out)?;
+    setting.err.fail_at.extend_from_slice(row.err)?;
+    Ok(setting.leaves(alloc, row.words, row.want))
 }

@@ -1,9 +1,7 @@
 //! Commands over a few files. Expected bytes come from the language's worked examples.
 
-use crate::command::{Setting, Want, leaves};
-use ns_base::no_memory::NoMemory;
+use crate::command::{Failing, Row, all_end_so, first_other};
 use ns_help::usage::{HELP, VERSION};
-use std::alloc::Global;
 
 const HELLO: &[u8] = b"class Hello packageUsing: manifest = () (
 public main: platform args: args = (
@@ -67,9 +65,6 @@ const FILES: &[(&str, &[u8])] = &[
     ("Super.ns", b"class B = () (a = (^super))"),
     ("Lib.ns", b"class Collections = () ()"),
 ];
-
-/// The words of a command, and what it leaves.
-type Row = (&'static [&'static str], Want);
 
 const DONE: &[Row] = &[
     (&["--help"], (HELP, "", 0)),
@@ -357,66 +352,39 @@ const REFUSED_FILES: &[Row] = &[
     ),
 ];
 
-#[test]
-fn commands_leave_what_they_mean(rt: HostRuntime) {
-    for rows in [DONE, STEPS, BAD_WORDS, REFUSED_FILES] {
-        assert_eq!(rt; first_other(rt.alloc(), rows), None);
-    }
-}
-
-/// The first command that leaves something else.
-fn first_other(alloc: Global, rows: &[Row]) -> Option<&'static [&'static str]> {
-    for (words, want) in rows {
-        if !leaves(alloc, FILES, words, *want) {
-            return Some(words);
-        }
-    }
-    None
-}
-
-/// The words of a command, the calls that fail, of the shelf and of each stream with how many bytes
-/// they still take, and what it leaves.
-struct Failing {
-    words: &'static [&'static str],
-    loads: &'static [u64],
-    out: &'static [(u64, u64)],
-    err: &'static [(u64, u64)],
-    want: Want,
-}
-
 /// A file that isn't there is no fault.
 const FAILING: &[Failing] = &[
     Failing {
         words: &["run", "H.ns"],
-        loads: &[0],
+        shelf: &[0],
         out: &[],
         err: &[],
         want: ("", "", 4),
     },
     Failing {
         words: &["check", "H.ns", "H.ns"],
-        loads: &[1],
+        shelf: &[1],
         out: &[],
         err: &[],
         want: ("", "", 4),
     },
     Failing {
         words: &["run", "Z.ns"],
-        loads: &[0],
+        shelf: &[0],
         out: &[],
         err: &[],
         want: ("", "Z.ns: Missing\n", 2),
     },
     Failing {
         words: &["run", "H.ns"],
-        loads: &[],
+        shelf: &[],
         out: &[],
         err: &[(0, 3)],
         want: ("Hello\n", "=> ", 5),
     },
     Failing {
         words: &["run", "H.ns"],
-        loads: &[],
+        shelf: &[],
         out: &[(0, 0)],
         err: &[],
         want: ("", "", 5),
@@ -424,16 +392,8 @@ const FAILING: &[Failing] = &[
 ];
 
 #[test]
-fn a_fault_ends_the_command(rt: HostRuntime) {
-    for row in FAILING {
-        assert!(rt; ends_so(rt.alloc(), row) == Ok(true));
-    }
-}
-
-fn ends_so(alloc: Global, row: &Failing) -> Result<bool, NoMemory> {
-    let mut setting = Setting::of(alloc, FILES)?;
-    setting.shelf.fail_at.extend_from_slice(row.loads)?;
-    setting.out.fail_at.extend_from_slice(row.out)?;
-    setting.err.fail_at.extend_from_slice(row.err)?;
-    Ok(setting.leaves(alloc, row.words, row.want))
+fn commands_leave_what_they_mean(rt: HostRuntime) {
+    let tables = [DONE, STEPS, BAD_WORDS, REFUSED_FILES];
+    assert_eq!(rt; first_other(rt.alloc(), FILES, &tables), None);
+    assert!(rt; all_end_so(rt.alloc(), FILES, FAILING));
 }

@@ -1,6 +1,6 @@
 //! Images: what is built of files, and what is done with it.
 
-use crate::command::{Setting, Want, leaves};
+use crate::command::{Failing, Row, Setting, all_end_so, first_other};
 use ns_base::no_memory::NoMemory;
 use std::alloc::Global;
 
@@ -30,17 +30,7 @@ public main: p args: a = (^make value)
 /// The files that each command finds.
 const FILES: &[(&str, &[u8])] = &[("a.img", SEVEN), ("D.ns", DEAD)];
 
-/// The words of a command, the calls of the shelf that fail, those of `out` and of `err` with how many
-/// bytes they still take, and what the command leaves.
-struct Failing {
-    words: &'static [&'static str],
-    shelf: &'static [u64],
-    out: &'static [(u64, u64)],
-    err: &'static [(u64, u64)],
-    want: Want,
-}
-
-const DONE: &[(&[&str], Want)] = &[
+const DONE: &[Row] = &[
     (&["exec", "a.img"], ("", "=> 7\n", 0)),
     (&["exec", "--steps=1", "a.img"], ("", "limit: steps\n", 3)),
     (&["list", "a.img"], (LISTING, "", 0)),
@@ -115,20 +105,9 @@ const FAILING: &[Failing] = &[
 
 #[test]
 fn images_are_built_run_and_listed(rt: HostRuntime) {
-    assert!(rt; all_done(rt.alloc()));
+    assert_eq!(rt; first_other(rt.alloc(), FILES, &[DONE]), None);
     assert!(rt; runs_what_it_stored(rt.alloc()) == Ok(true));
-    for row in FAILING {
-        assert!(rt; ends_so(rt.alloc(), row) == Ok(true));
-    }
-}
-
-fn all_done(alloc: Global) -> bool {
-    for (words, want) in DONE {
-        if !leaves(alloc, FILES, words, *want) {
-            return false;
-        }
-    }
-    true
+    assert!(rt; all_end_so(rt.alloc(), FILES, FAILING));
 }
 
 /// An error of an image that was built has its place.
@@ -137,12 +116,4 @@ fn runs_what_it_stored(alloc: Global) -> Result<bool, NoMemory> {
     let built = setting.run(alloc, &["build", "d.img", "D.ns"])?;
     let want = ("", "D.ns:3:33: DeadReturn Block value\n", 1);
     Ok(built == 0 && setting.leaves(alloc, &["exec", "d.img"], want))
-}
-
-fn ends_so(alloc: Global, row: &Failing) -> Result<bool, NoMemory> {
-    let mut setting = Setting::of(alloc, FILES)?;
-    setting.shelf.fail_at.extend_from_slice(row.shelf)?;
-    setting.out.fail_at.extend_from_slice(row.out)?;
-    setting.err.fail_at.extend_from_slice(row.err)?;
-    Ok(setting.leaves(alloc, row.words, row.want))
 }

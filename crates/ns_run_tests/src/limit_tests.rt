@@ -79,9 +79,11 @@ const LIMITS: [Limit; 7] = [
 
 #[test]
 fn one_past_each_limit_is_refused(rt: HostRuntime) {
-    for limit in &LIMITS {
-        assert!(rt; is_limit(rt.alloc(), limit) == Ok(true));
-    }
+    assert!(rt;
+        LIMITS
+            .iter()
+            .all(|limit| is_limit(rt.alloc(), limit) == Ok(true))
+    );
 }
 
 fn is_limit(alloc: Global, limit: &Limit) -> Result<bool, NoMemory> {
@@ -120,9 +122,7 @@ const LENGTHS: [(usize, &str); 2] = [
 
 #[test]
 fn a_source_has_at_most_a_mebibyte(rt: HostRuntime) {
-    for (length, err) in LENGTHS {
-        assert!(rt; tells_of_blanks(rt.alloc(), length, err) == Ok(true));
-    }
+    assert!(rt; LENGTHS.iter().all(|row| tells_of_blanks(rt.alloc(), row.0, row.1) == Ok(true)));
 }
 
 fn tells_of_blanks(alloc: Global, length: usize, err: &'static str) -> Result<bool, NoMemory> {

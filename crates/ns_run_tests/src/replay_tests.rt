@@ -1,8 +1,6 @@
 //! Replays: what is told of the steps to which moves lead, and what is left where the shelf fails.
 
-use crate::command::{Setting, Want, leaves};
-use ns_base::no_memory::NoMemory;
-use std::alloc::Global;
+use crate::command::{Failing, Row, all_end_so, first_other};
 
 /// One that takes four steps, and prints in the last one.
 const FILES: &[(&str, &[u8])] = &[(
@@ -22,7 +20,7 @@ const END: &str = "step 4 cells 13 depth 0 out 6\n";
 
 /// The words of a replay, and what is told: back from the end, which is where a far step leads too; never below the start; and within
 /// the limits that are given.
-const ROWS: &[(&[&str], Want)] = &[
+const ROWS: &[Row] = &[
     (
         &["replay", "H.ns", "+4", "-1", "=0"],
         (
@@ -51,7 +49,7 @@ const ROWS: &[(&[&str], Want)] = &[
     ),
 ];
 
-const REFUSED: &[(&[&str], Want)] = &[
+const REFUSED: &[Row] = &[
     (&["replay", "H.ns"], ("", "nspk: bad word 2\n", 2)),
     (&["replay", "H.ns", "3"], ("", "nspk: bad word 2\n", 2)),
     (&["replay", "H.ns", "+03"], ("", "nspk: bad word 2\n", 2)),
@@ -71,20 +69,17 @@ const REFUSED: &[(&[&str], Want)] = &[
     (&["replay", "N.ns", "+1"], ("", "N.ns: Missing\n", 2)),
 ];
 
+/// A file that can't be read.
+const FAILING: &[Failing] = &[Failing {
+    words: &["replay", "H.ns", "+1"],
+    shelf: &[0],
+    out: &[],
+    err: &[],
+    want: ("", "", 4),
+}];
+
 #[test]
 fn runs_are_gone_through(rt: HostRuntime) {
-    for (words, want) in ROWS {
-        assert!(rt; leaves(rt.alloc(), FILES, words, *want));
-    }
-    for (words, want) in REFUSED {
-        assert!(rt; leaves(rt.alloc(), FILES, words, *want));
-    }
-    assert!(rt; fails(rt.alloc()) == Ok(true));
-}
-
-/// Whether a file that can't be read leaves what it should.
-fn fails(alloc: Global) -> Result<bool, NoMemory> {
-    let mut setting = Setting::of(alloc, FILES)?;
-    setting.shelf.fail_at.push(0)?;
-    Ok(setting.leaves(alloc, &["replay", "H.ns", "+1"], ("", "", 4)))
+    assert_eq!(rt; first_other(rt.alloc(), FILES, &[ROWS, REFUSED]), None);
+    assert!(rt; all_end_so(rt.alloc(), FILES, FAILING));
 }

@@ -7,9 +7,11 @@ use std::alloc::Global;
 
 #[test]
 fn output_goes_out_in_pieces(rt: HostRuntime) {
-    for row in WRITTEN {
-        assert!(rt; writes(rt.alloc(), row) == Ok(true));
-    }
+    assert!(rt;
+        WRITTEN
+            .iter()
+            .all(|row| writes(rt.alloc(), row) == Ok(true))
+    );
 }
 
 /// The puts of the output that take only so many bytes, how many bytes are written, and the exit status.

@@ -1,5 +1,6 @@
 -- The applications of a session are made of their sources, one after another.
-use Rattle.std.specs.Prelude.{ℕ, Bool, List, [], ◌∷◌, ◌++◌, length, map, take, drop, Option, Some, None}
+use Rattle.std.specs.Prelude.{ℕ, Bool, List, [], ◌∷◌, ◌++◌, length, map, take, drop, Option, Some, None, if◌then◌else◌}
+use Rattle.std.specs.Str.{bytes_eq}
 use Rattle.ns_base.specs.Files.{Files}
 use Rattle.ns_base.specs.declared.limits.Limits.{Limits}
 use Rattle.ns_base.specs.declared.place.Place.{Place}
@@ -67,6 +68,10 @@ made_of lib asked texts = of_loading asked.names (granted asked) lib (loaded_tex
 -- that of the files' own texts
 abbrev pub made_from : Files → Bool → Asked → Making
 made_from files lib asked = made_of lib asked (map files asked.names)
+
+-- the files of which there is one, with this name and text
+abbrev pub one_file : List ℕ → List ℕ → Files
+one_file name text asked = if bytes_eq name asked then Some text else None
 
 -- ---- all applications
 

@@ -10,3 +10,4 @@ mod making;
 mod parts;
 pub mod source;
 mod telling;
+pub mod text;

@@ -1,14 +1,10 @@
 //! Applications made of a source in memory.
 
 use ns_base::limits::Limits;
-use ns_base::mem_shelf::MemShelf;
-use ns_base::no_memory::NoMemory;
-use ns_base::text::Text;
 use ns_facets::row::Grants;
-use ns_run_words::application::application_of;
 use ns_session::fault::AddFault;
 use ns_session::session::Session;
-use ns_session_files::source::code_of;
+use ns_session_files::text::code_of_text;
 use ns_verify::verify::Verified;
 use std::alloc::Global;
 
@@ -37,15 +33,5 @@ pub fn add(alloc: Global, session: &mut Session, source: &str) -> Option<Result<
 
 /// The code of a source, which is that of an application.
 pub fn code(alloc: Global, source: &str) -> Option<Verified> {
-    match (application_of("c=T.ns"), shelf(alloc, source)) {
-        (Some(asked), Ok(mut shelf)) => code_of(alloc, asked, false, &mut shelf).ok(),
-        _ => None,
-    }
-}
-
-/// A shelf of one file, which has this text.
-fn shelf(alloc: Global, source: &str) -> Result<MemShelf, NoMemory> {
-    let mut files = Vec::new(alloc);
-    files.push((Text::of(alloc, b"T.ns")?, source.as_bytes().to_vec(alloc)?))?;
-    Ok(MemShelf::new(alloc, files))
+    code_of_text(alloc, "T.ns", source, false).ok()
 }
