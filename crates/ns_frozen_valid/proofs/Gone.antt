@@ -11,9 +11,9 @@ use Rattle.ns_frozen.specs.declared.frozen.Frozen.{Frozen}
 use Rattle.ns_frozen.specs.Freezing.{cell_frozen}
 use Rattle.ns_frozen.specs.Thawing.{cell_thawed, cells_onto, heap_thawed}
 use Rattle.ns_frozen.specs.Cells.{is_good_cell, stands_first, behind_first, arguments_behind, bad_cell_from, bad_cell, first_cells, wants_arguments, is_standing, is_awaited}
-use Rattle.ns_frozen_valid.specs.Numbers.{data_size, data_from}
+use Rattle.ns_frozen_tables.specs.Numbers.{data_size, data_from}
 use Rattle.ns_frozen_valid.specs.Cells.{cell_of, stands_so, bad_data_from}
-use Rattle.ns_frozen_valid.proofs.Found.{size_thawed, size_positive, found_there}
+use Rattle.ns_frozen_tables.specs.laws.Found.{size_thawed, size_positive, found_there}
 
 -- ---- the cells in their order
 

@@ -1,15 +1,3 @@
-pub mod Found
-pub mod Linked
-pub mod Asked
-pub mod Stands
-pub mod Built
-pub mod Outwards
-pub mod Walked
-pub mod Kept
-pub mod Climbed
-pub mod Outers
-pub mod Alike
-pub mod Fitted
 pub mod Gone
 pub mod Framed
 pub mod Ended

@@ -13,7 +13,7 @@ use Rattle.ns_frozen.specs.Thawing.{cell_thawed}
 use Rattle.ns_frozen.specs.Live.{has_holder, declares}
 use Rattle.ns_frozen.specs.Cells.{has_enclosing, is_empty, is_instance, is_block_of, is_good_cell, stands_first, behind_first, arguments_behind, is_awaited}
 use Rattle.ns_frozen_valid.specs.declared.cells.BlockParts.{BlockParts}
-use Rattle.ns_frozen_valid.specs.Numbers.{data_size}
+use Rattle.ns_frozen_tables.specs.Numbers.{data_size}
 
 -- whether an object is as it must be
 abbrev pub is_good_object : CodeProgram → Heap → ℕ → ℕ → List Value → Bool

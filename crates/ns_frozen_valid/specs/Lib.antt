@@ -1,17 +1,3 @@
-pub mod Numbers
-pub mod Chain
-pub mod Selectors
-pub mod Shapes
-pub mod Bodies
-pub mod Stands
-pub mod Above
-pub mod Climbs
-pub mod Keepers
-pub mod Fitting
-pub mod Nested
-pub mod Seen
-pub mod Kinds
-pub mod Environments
 pub mod Cells
 pub mod First
 pub mod Kernel

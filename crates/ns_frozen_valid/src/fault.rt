@@ -6,14 +6,18 @@ ghost use Rattle.ns_verify.specs.Verify.{IsSound};
 ghost use Rattle.ns_frozen.specs.Cells.{bad_cell};
 ghost use Rattle.ns_frozen.specs.Fault.{fault_in, fault_of};
 ghost use Rattle.ns_frozen.specs.Thawing.{heap_thawed};
-ghost use Rattle.ns_frozen_valid.specs.Seen.{IsSeen, heap_of};
+ghost use Rattle.ns_frozen_seen.specs.Seen.{IsSeen, heap_of};
 
+use crate::among::bad_among;
 use crate::first::{first_cells, wants_arguments};
-use crate::seen::Seen;
+use crate::frames::bad_frame;
+use crate::rest::is_good_rest;
 use ns_base::no_memory::NoMemory;
 use ns_code::program::CodeProgram;
 use ns_frozen::fault::RestoreFault;
 use ns_frozen::frozen::Frozen;
+use ns_frozen_fitting::fitting::seen_fitting;
+use ns_frozen_seen::seen::Seen;
 use std::alloc::Global;
 
 /// The first part of a frozen state that can't be, in a run of sound code: a cell, a frame, or what stands beside these. None
@@ -27,7 +31,7 @@ pub fn first_fault(
     requires fits { Fits code.now }
     ensures { IfOk result (λ fault. fault ≡ fault_of code.now frozen.now) }
 {
-    let seen = Seen::of(
+    let seen = seen_fitting(
         alloc,
         code,
         frozen.cells.as_slice(),
@@ -51,10 +55,10 @@ fn fault_among(
     if let Some(place) = bad_cell(alloc, seen, frozen)? {
         return Ok(Some(RestoreFault::BadCell(place)));
     }
-    if let Some(place) = seen.bad_frame(frozen) {
+    if let Some(place) = bad_frame(seen, frozen) {
         return Ok(Some(RestoreFault::BadFrame(place)));
     }
-    if seen.is_good_rest(frozen) {
+    if is_good_rest(seen, frozen) {
         Ok(None)
     } else {
         Ok(Some(RestoreFault::BadRest))
@@ -71,7 +75,7 @@ pub fn first_bad_cell(
     requires fits { Fits code.now }
     ensures { IfOk result (λ place. place ≡ bad_cell code.now (heap_thawed code.now frozen.now.cells) frozen.now) }
 {
-    let seen = Seen::of(
+    let seen = seen_fitting(
         alloc,
         code,
         frozen.cells.as_slice(),
@@ -88,7 +92,8 @@ fn bad_cell(alloc: Global, seen: &Seen<'_>, frozen: &Frozen) -> Result<Option<u6
     ensures { IfOk result (λ place. place ≡ bad_cell seen.now.code.now (heap_of seen.now) frozen.now) }
 {
     let first = first_cells(alloc, seen.code, frozen)?;
-    let place = seen.bad_among(
+    let place = bad_among(
+        seen,
         frozen.homes,
         first.as_slice(),
         wants_arguments(frozen.phase, frozen.ending),

@@ -11,13 +11,13 @@ ghost use Rattle.ns_frozen.specs.Thawing.{cell_thawed};
 ghost use Rattle.ns_moves.specs.Valid.{fitting, is_no_facet};
 ghost use Rattle.ns_frozen_valid.specs.First as own;
 
-use crate::chain::is_object_class;
-use crate::plain::is_nil;
 use ns_base::no_memory::NoMemory;
 use ns_code::program::CodeProgram;
 use ns_facets::row::Grants;
 use ns_frozen::cell::CellData;
 use ns_frozen::frozen::Frozen;
+use ns_frozen_seen::plain::is_nil;
+use ns_frozen_tables::chain::is_object_class;
 use ns_world::cell::FacetKind;
 use ns_world::ending::{Ending, LimitKind};
 use std::alloc::Global;

@@ -4,158 +4,153 @@ ghost use Rattle.std.specs.Prelude.{◌≡◌, ℕ};
 ghost use Rattle.ns_world.specs.Heap.{heap_size};
 ghost use Rattle.ns_frozen.specs.Rest as spec;
 ghost use Rattle.ns_frozen_valid.specs.Rest as own;
-ghost use Rattle.ns_frozen_valid.specs.Seen.{IsSeen, heap_of};
+ghost use Rattle.ns_frozen_seen.specs.Seen.{IsSeen, heap_of};
 
 use crate::first::ends_start;
-use crate::numbers::size;
-use crate::seen::Seen;
 use ns_base::selector::Sel;
 use ns_frozen::frame::{FrameKind, FrozenFrame};
 use ns_frozen::frozen::Frozen;
 use ns_frozen::pending::Pending;
+use ns_frozen_seen::seen::Seen;
+use ns_frozen_tables::numbers::size;
 use ns_moves::site::Site;
 use ns_world::ending::Ending;
 use ns_world::value::Value;
 
-impl Seen<'_> {
-    /// Whether the rest is as it must be.
-    pub fn is_good_rest(&self, frozen: &Frozen) -> bool
-        requires seen { IsSeen self.now }
-        requires these { self.now.cells.now ≡ frozen.now.cells }
-        ensures { result ≡ spec.is_good_rest self.now.code.now (heap_of self.now) frozen.now }
-    {
-        self.are_counted(frozen)
-            && is_deep(frozen.ending, frozen.used.depth, frozen.frames.len())
-            && is_phased(frozen)
-            && self.is_good_end_of(frozen)
-    }
+/// Whether the rest is as it must be.
+pub fn is_good_rest(seen: &Seen<'_>, frozen: &Frozen) -> bool
+    requires seen { IsSeen seen.now }
+    requires these { seen.now.cells.now ≡ frozen.now.cells }
+    ensures { result ≡ spec.is_good_rest seen.now.code.now (heap_of seen.now) frozen.now }
+{
+    are_counted(seen, frozen)
+        && is_deep(frozen.ending, frozen.used.depth, frozen.frames.len())
+        && is_phased(frozen)
+        && is_good_end_of(seen, frozen)
+}
 
-    /// Whether what is pending and the ending are.
-    fn is_good_end_of(&self, frozen: &Frozen) -> bool
-        requires { IsSeen self.now }
-        ensures { result ≡ own.is_good_end_of self.now.code.now (heap_of self.now) frozen.now }
-    {
-        self.is_good_waiting(frozen.frames.as_slice(), &frozen.pending)
-            && self.is_good_end(frozen.phase, frozen.ending)
-    }
+/// Whether what is pending and the ending are.
+fn is_good_end_of(seen: &Seen<'_>, frozen: &Frozen) -> bool
+    requires { IsSeen seen.now }
+    ensures { result ≡ own.is_good_end_of seen.now.code.now (heap_of seen.now) frozen.now }
+{
+    is_good_waiting(seen, frozen.frames.as_slice(), &frozen.pending)
+        && is_good_end(seen, frozen.phase, frozen.ending)
+}
 
-    /// Whether no counter passes its limit, and the counters are those of the cells, the output and the homes.
-    fn are_counted(&self, frozen: &Frozen) -> bool
-        requires { IsSeen self.now }
-        ensures { result ≡ spec.are_counted (heap_of self.now) frozen.now }
-    {
-        are_within(frozen)
-            && frozen.homes <= frozen.used.steps
-            && u128::from(frozen.used.cells) == self.cells_used()
-            && frozen.used.out == frozen.output.bytes().len() as u64
-    }
+/// Whether no counter passes its limit, and the counters are those of the cells, the output and the homes.
+fn are_counted(seen: &Seen<'_>, frozen: &Frozen) -> bool
+    requires { IsSeen seen.now }
+    ensures { result ≡ spec.are_counted (heap_of seen.now) frozen.now }
+{
+    are_within(frozen)
+        && frozen.homes <= frozen.used.steps
+        && u128::from(frozen.used.cells) == cells_used(seen)
+        && frozen.used.out == frozen.output.bytes().len() as u64
+}
 
-    /// The cells used.
-    fn cells_used(&self) -> u128
-        ensures { result ≡ heap_size (heap_of self.now) }
-    {
-        let mut used: u128 = 0;
-        'cells: for cell in self.cells {
-            used += u128::from(size(cell));
+/// The cells used.
+fn cells_used(seen: &Seen<'_>) -> u128
+    ensures { result ≡ heap_size (heap_of seen.now) }
+{
+    let mut used: u128 = 0;
+    'cells: for cell in seen.cells {
+        used += u128::from(size(cell));
+    }
+    used
+}
+
+/// Whether what is pending can be done above these frames, where something is.
+fn is_good_waiting(seen: &Seen<'_>, frames: &[FrozenFrame], pending: &Option<Pending>) -> bool
+    requires { IsSeen seen.now }
+    ensures { result ≡ spec.is_good_waiting seen.now.code.now (heap_of seen.now) frames.now pending.now }
+{
+    match pending {
+        Some(pending) => is_good_pending(seen, frames, pending),
+        None => true,
+    }
+}
+
+/// The same of what is.
+fn is_good_pending(seen: &Seen<'_>, frames: &[FrozenFrame], pending: &Pending) -> bool
+    requires { IsSeen seen.now }
+    ensures { result ≡ spec.is_good_pending seen.now.code.now (heap_of seen.now) frames.now pending.now }
+{
+    match pending {
+        Pending::Send {
+            receiver,
+            sel,
+            args,
+            site,
+        } => frames.is_empty() && can_send(seen, *receiver, *sel, args.as_slice(), *site),
+        Pending::Perform {
+            receiver,
+            sel,
+            args,
+            site,
+        } => {
+            (!is_on_kernel(frames) && seen.is_live(*receiver))
+                && seen.has_elements_for(*sel, Value::Ref(*args))
+                && seen.is_site(*site)
         }
-        used
-    }
-
-    /// Whether what is pending can be done above these frames, where something is.
-    fn is_good_waiting(&self, frames: &[FrozenFrame], pending: &Option<Pending>) -> bool
-        requires { IsSeen self.now }
-        ensures { result ≡ spec.is_good_waiting self.now.code.now (heap_of self.now) frames.now pending.now }
-    {
-        match pending {
-            Some(pending) => self.is_good_pending(frames, pending),
-            None => true,
-        }
-    }
-
-    /// The same of what is.
-    fn is_good_pending(&self, frames: &[FrozenFrame], pending: &Pending) -> bool
-        requires { IsSeen self.now }
-        ensures { result ≡ spec.is_good_pending self.now.code.now (heap_of self.now) frames.now pending.now }
-    {
-        match pending {
-            Pending::Send {
-                receiver,
-                sel,
-                args,
-                site,
-            } => frames.is_empty() && self.can_send(*receiver, *sel, args.as_slice(), *site),
-            Pending::Perform {
-                receiver,
-                sel,
-                args,
-                site,
-            } => {
-                (!is_on_kernel(frames) && self.is_live(*receiver))
-                    && self.has_elements_for(*sel, Value::Ref(*args))
-                    && self.is_site(*site)
-            }
-            Pending::Evaluate { block, args, site } => {
-                self.can_evaluate(*block, args.as_slice(), *site)
-            }
+        Pending::Evaluate { block, args, site } => {
+            can_evaluate(seen, *block, args.as_slice(), *site)
         }
     }
+}
 
-    /// Whether a send can be made.
-    fn can_send(&self, receiver: Value, sel: Sel, arguments: &[Value], site: Site) -> bool
-        requires { IsSeen self.now }
-        ensures { result ≡ own.can_send self.now.code.now (heap_of self.now) receiver sel arguments.now site }
-    {
-        self.is_live(receiver)
-            && self.takes_arguments(sel, arguments.len())
-            && arguments.len() <= 255
-            && self.are_live(arguments)
-            && self.is_site(site)
+/// Whether a send can be made.
+fn can_send(seen: &Seen<'_>, receiver: Value, sel: Sel, arguments: &[Value], site: Site) -> bool
+    requires { IsSeen seen.now }
+    ensures { result ≡ own.can_send seen.now.code.now (heap_of seen.now) receiver sel arguments.now site }
+{
+    seen.is_live(receiver)
+        && takes_arguments(seen, sel, arguments.len())
+        && arguments.len() <= 255
+        && seen.are_live(arguments)
+        && seen.is_site(site)
+}
+
+/// Whether so many arguments are those of a selector.
+fn takes_arguments(seen: &Seen<'_>, sel: Sel, count: usize) -> bool
+    requires { IsSeen seen.now }
+    ensures { result ≡ spec.takes_arguments seen.now.code.now sel count }
+{
+    seen.has_selector(sel) && count == seen.arity(sel)
+}
+
+/// Whether a block can be evaluated.
+fn can_evaluate(seen: &Seen<'_>, block: Value, arguments: &[Value], site: Site) -> bool
+    requires { IsSeen seen.now }
+    ensures { result ≡ own.can_evaluate seen.now.code.now (heap_of seen.now) block arguments.now site }
+{
+    seen.is_block(block) && arguments.len() <= 255 && seen.are_live(arguments) && seen.is_site(site)
+}
+
+/// Whether a run can have ended so in a phase, where it has.
+fn is_good_end(seen: &Seen<'_>, phase: u8, ending: Option<Ending>) -> bool
+    requires { IsSeen seen.now }
+    ensures { result ≡ spec.is_good_end seen.now.code.now (heap_of seen.now) phase ending }
+{
+    match ending {
+        Some(ending) => ends_in(phase, ending) && is_good_ending(seen, ending),
+        None => true,
     }
+}
 
-    /// Whether so many arguments are those of a selector.
-    fn takes_arguments(&self, sel: Sel, count: usize) -> bool
-        requires { IsSeen self.now }
-        ensures { result ≡ spec.takes_arguments self.now.code.now sel count }
-    {
-        self.has_selector(sel) && count == self.arity(sel)
-    }
-
-    /// Whether a block can be evaluated.
-    fn can_evaluate(&self, block: Value, arguments: &[Value], site: Site) -> bool
-        requires { IsSeen self.now }
-        ensures { result ≡ own.can_evaluate self.now.code.now (heap_of self.now) block arguments.now site }
-    {
-        self.is_block(block)
-            && arguments.len() <= 255
-            && self.are_live(arguments)
-            && self.is_site(site)
-    }
-
-    /// Whether a run can have ended so in a phase, where it has.
-    fn is_good_end(&self, phase: u8, ending: Option<Ending>) -> bool
-        requires { IsSeen self.now }
-        ensures { result ≡ spec.is_good_end self.now.code.now (heap_of self.now) phase ending }
-    {
-        match ending {
-            Some(ending) => ends_in(phase, ending) && self.is_good_ending(ending),
-            None => true,
-        }
-    }
-
-    /// Whether what a run ended with is of the code.
-    fn is_good_ending(&self, ending: Ending) -> bool
-        requires { IsSeen self.now }
-        ensures { (phase : ℕ) → result ≡ spec.is_good_ending self.now.code.now (heap_of self.now) phase ending }
-    {
-        match ending {
-            Ending::Done(value) => self.is_live(value),
-            Ending::Error(error) => self.is_site(Site {
-                place: error.place,
-                class: error.class,
-                sel: error.sel,
-            }),
-            Ending::Limit(_) => true,
-        }
+/// Whether what a run ended with is of the code.
+fn is_good_ending(seen: &Seen<'_>, ending: Ending) -> bool
+    requires { IsSeen seen.now }
+    ensures { (phase : ℕ) → result ≡ spec.is_good_ending seen.now.code.now (heap_of seen.now) phase ending }
+{
+    match ending {
+        Ending::Done(value) => seen.is_live(value),
+        Ending::Error(error) => seen.is_site(Site {
+            place: error.place,
+            class: error.class,
+            sel: error.sel,
+        }),
+        Ending::Limit(_) => true,
     }
 }
 

@@ -4,7 +4,7 @@ use Rattle.ns_code.specs.declared.class.ClassCode.{ClassCode}
 use Rattle.ns_world.specs.Cell.{Cell}
 use Rattle.ns_moves.specs.Start.{facets_of, tops_of}
 use Rattle.ns_frozen_valid.specs.First.{first_shown}
-use Rattle.ns_frozen_valid.proofs.Built.{next_of}
+use Rattle.ns_frozen_tables.specs.laws.Lists.{next_of}
 use Rattle.ns_frozen_valid.proofs.Starts.{tops_on}
 use Rattle.ns_frozen_valid.proofs.first.standing.Goals as goal
 

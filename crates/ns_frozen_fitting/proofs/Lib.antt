@@ -1,0 +1,3 @@
+pub mod Outwards
+pub mod Alike
+pub mod Fitted

@@ -1,0 +1,6 @@
+use Rattle.ns_frozen_seen.specs.Fitting.{AreFitting}
+use Rattle.ns_frozen_seen.specs.Seen.{heap_of}
+use Rattle.ns_frozen_fitting.proofs.fitting.keep_frames.Given as goal
+
+abbrev pub invariant-frames : goal.invariant-frames
+invariant-frames l = AreFitting l.seen.code.now (heap_of l.seen) l.seen.numbers l.kept.items

@@ -1,0 +1,5 @@
+pub mod Found
+pub mod Asked
+pub mod Walked
+pub mod Kept
+pub mod Climbed

@@ -1,0 +1,4 @@
+pub mod Climbs
+pub mod Keepers
+pub mod Fitting
+pub mod Seen

@@ -1,0 +1,5 @@
+pub mod Found
+pub mod Built
+pub mod Stands
+pub mod Alike
+pub mod Outers

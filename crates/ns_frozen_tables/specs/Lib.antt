@@ -1,0 +1,10 @@
+pub mod Numbers
+pub mod Kinds
+pub mod Chain
+pub mod Selectors
+pub mod Stands
+pub mod Above
+pub mod Shapes
+pub mod Bodies
+pub mod Nested
+pub mod laws

@@ -1,6 +1,0 @@
-use Rattle.std.proofs.Common.{drop}
-use Rattle.ns_frozen_valid.proofs.Built.{Built}
-use Rattle.ns_frozen_valid.proofs.chain.Chains.of.Given as goal
-
-abbrev pub invariant-cells : goal.invariant-cells
-invariant-cells l = Built l.code l.cells (drop l.cell-index l.cells) l.number l.chains

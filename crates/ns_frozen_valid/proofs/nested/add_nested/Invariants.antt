@@ -1,5 +1,0 @@
-use Rattle.ns_frozen_valid.specs.Nested.{AreOuters}
-use Rattle.ns_frozen_valid.proofs.nested.add_nested.Given as goal
-
-abbrev pub invariant-nested : goal.invariant-nested
-invariant-nested l = AreOuters l.code l.outers.items

@@ -1,6 +1,0 @@
-use Rattle.std.proofs.Common.{◌≡◌, ◌++◌, drop}
-use Rattle.ns_frozen_valid.specs.Numbers.{numbers_from}
-use Rattle.ns_frozen_valid.proofs.numbers.numbers_of.Given as goal
-
-abbrev pub invariant-cells : goal.invariant-cells
-invariant-cells l = l.numbers.items ++ numbers_from l.number (drop l.cell-index l.cells) ≡ numbers_from 0 l.cells

@@ -1,8 +1,0 @@
-use Rattle.std.proofs.Common.{◌≡◌, ◌≤◌, ◌+◌, ◌*◌, drop}
-use Rattle.ns_frozen_valid.proofs.Gone.{sizes_of}
-use Rattle.ns_frozen_valid.proofs.seen.Seen.cells_used.Given as goal
-
-abbrev pub invariant-cells : goal.invariant-cells
-invariant-cells l =
-    (l.used ≤ 9223372036854775808 * l.cell-index)
-    × (l.used + sizes_of (drop l.cell-index l.self.cells.now) ≡ sizes_of l.self.cells.now)

@@ -1,7 +1,0 @@
-use Rattle.ns_frozen_valid.specs.Seen.{heap_of}
-use Rattle.ns_frozen_valid.proofs.Fitted.{fits_around_out}
-use Rattle.ns_frozen_valid.proofs.seen.Seen.keep_one.Goals as goal
-
-pub returns-clause-fits : goal.returns-clause-fits
-returns-clause-fits c =
-    fits_around_out c.args.self.now.code.now (heap_of c.args.self.now) c.args.number c.args.env c.around.result c.requires.seen.parents c.requires.fits c.around.ensures

@@ -1,9 +1,0 @@
-use Rattle.std.proofs.Common.{ℕ, ◌≡◌, Option, length, true, subst}
-use Rattle.ns_frozen.specs.Live.{fits_environment}
-use Rattle.ns_frozen_valid.specs.Seen.{heap_of}
-use Rattle.ns_frozen_valid.proofs.seen.Seen.keep_outwards.Goals as goal
-
-pub keep_one-requires-clause-fits : goal.keep_one-requires-clause-fits
-keep_one-requires-clause-fits c =
-    subst (λ (o : Option ℕ). fits_environment (length c.args.self.now.code.now.bodies) c.args.self.now.code.now (heap_of c.args.self.now) o c.bodies.env ≡ true)
-    c.in-Some.is c.bodies.invariant.1
