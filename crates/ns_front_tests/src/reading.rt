@@ -13,7 +13,7 @@ pub fn read(alloc: Global, source: &[u8]) -> Result<Unit, ParseFault> {
         return Err(ParseFault::Memory);
     }
     match lex(alloc, source) {
-        Ok(tokens) => parse(alloc, &tokens),
+        Ok(tokens) => parse(alloc, tokens),
         Err(_) => Err(ParseFault::Memory),
     }
 }

@@ -1,11 +1,12 @@
 -- Places further on in a source.
-use Rattle.std.proofs.Common.{◌≡◌, ℕ, ◌+◌, ◌-◌, ◌<◌, ◌≤◌, List, [], ◌∷◌, ◌++◌, length, take, drop, refl, ap, sym, ◌∙◌, cond, true, false, arith, get_or, subst}
+use Rattle.std.proofs.Common.{◌≡◌, ℕ, zero, suc, ◌+◌, ◌-◌, ◌<◌, ◌≤◌, List, [], ◌∷◌, ◌++◌, length, slice_index_or, take, drop, refl, ap, sym, ◌∙◌, cond, true, false, arith, get_or, subst}
 use Rattle.std.proofs.Math.Seq.{take-add}
 use Rattle.std.proofs.lemmas.List.{length-take-le, drop_more}
 use Rattle.std.specs.Prelude.{◌==◌}
 use Rattle.ns_base.specs.declared.place.Place.{Place}
 use Rattle.ns_lex.specs.Scan.{InOrder}
-use Rattle.ns_load.specs.Place.{behind, past, place_of, start}
+use Rattle.ns_load.specs.Place.{behind, marks, past, place_of, start}
+use Rattle.ns_load.specs.Source.{offset_of}
 use Rattle.ns_tree.specs.declared.token.Token.{Token}
 
 pub behind_both : (xs ys : List ℕ) (p : Place) → behind (xs ++ ys) p ≡ behind ys (behind xs p)
@@ -64,3 +65,18 @@ next_in_order from to i ts t l e h =
     let o : InOrder from to (t ∷ drop (i + 1) ts) = subst (InOrder from to) cut h in
     let w : t.«end» ≤ to = order_within t.«end» to (drop (i + 1) ts) o.2 in
     (o.0, omega (arith, o.1, w), order_from t.start t.«end» to (drop (i + 1) ts) (omega (arith, o.1)) o.2)
+
+-- ---- places of tokens
+
+-- The mark of a number is the place of the token of that number, or the end behind the last.
+pub place_of_token : (file : ℕ) (source : List ℕ) (ts : List Token) (k : ℕ) (p : Place) → k < length (marks file source ts) → p ≡ slice_index_or (marks file source ts) k p → p ≡ place_of file source (offset_of ts k (length source))
+place_of_token file source [] zero p h e = e
+place_of_token file source [] (suc k) p h e = absurd (omega (arith, h))
+place_of_token file source (t ∷ ts) zero p h e = e
+place_of_token file source (t ∷ ts) (suc k) p h e = place_of_token file source ts k p (omega (arith, h)) e
+
+-- Where no mark has the number, no token has it.
+pub no_token : (file : ℕ) (source : List ℕ) (ts : List Token) (k : ℕ) → length (marks file source ts) ≤ k → offset_of ts k (length source) ≡ length source
+no_token file source [] k h = refl
+no_token file source (t ∷ ts) zero h = absurd (omega (arith, h))
+no_token file source (t ∷ ts) (suc k) h = no_token file source ts k (omega (arith, h))

@@ -1,12 +1,14 @@
 //! Reading the text of a file as a tree.
 
-ghost use Rattle.std.specs.Prelude.{◌≡◌, ◌≤◌, IfErr, length};
+ghost use Rattle.std.specs.Prelude.{◌≡◌, ◌≤◌, IfErr, List, length};
 ghost use Rattle.ns_lex.specs.Scan.{InOrder};
 ghost use Rattle.ns_load.specs.Answer.{IsSpelling};
 ghost use Rattle.ns_load.specs.Place as places;
 ghost use Rattle.ns_load.specs.Source as spec;
 ghost use Rattle.ns_load.specs.Stated.{IsReading};
-ghost use Rattle.ns_load.specs.declared.fault.LoadFault.TheVariants.{Memory};
+ghost use Rattle.ns_load.specs.declared.fault.LoadCause.TheVariants.{Spelling};
+ghost use Rattle.ns_load.specs.declared.fault.LoadFault.TheVariants.{At, Memory};
+ghost use Rattle.ns_tree.specs.declared.token.Token.{Token};
 
 use crate::fault::{LoadCause, LoadFault, SpellingCause};
 use crate::place::{marks, place_of};
@@ -40,7 +42,7 @@ pub fn read(alloc: Global, file: u32, source: &[u8]) -> Result<Source, LoadFault
     ensures spelling { IfErr result IsSpelling }
 {
     match lex(alloc, source) {
-        Ok(tokens) => read_tokens(alloc, file, source, tokens.as_slice()),
+        Ok(tokens) => read_tokens(alloc, file, source, tokens),
         Err(fault) => Err(lexical(file, source, fault)),
     }
 }
@@ -49,33 +51,34 @@ fn read_tokens(
     alloc: Global,
     file: u32,
     source: &[u8],
-    tokens: &[Token],
+    tokens: Vec<Token>,
 ) -> Result<Source, LoadFault>
     requires short { length source.now ≤ 1048576 }
-    requires few { length tokens.now ≤ 1048576 }
-    requires in_order { InOrder 0 (length source.now) tokens.now }
-    ensures exact { IsReading (spec.read_tokens file source.now tokens.now) result }
+    requires few { length tokens.items ≤ 1048576 }
+    requires in_order { InOrder 0 (length source.now) tokens.items }
+    ensures exact { IsReading (spec.read_tokens file source.now tokens.items) result }
     ensures spelling { IfErr result IsSpelling }
 {
-    match marks(alloc, file, source, tokens) {
+    match marks(alloc, file, source, tokens.as_slice()) {
         Ok(marks) => parsed(alloc, file, source, tokens, marks),
         Err(NoMemory) => Err(LoadFault::Memory),
     }
 }
 
-/// What tokens with these places spell, or the first fault of the grammar.
+/// What tokens with these places spell, or the first fault of the grammar. The tokens are let go, and
+/// their places stay.
 #[tactic(auto, using(crate::proofs::Sources::grammatical_fault))]
 fn parsed(
     alloc: Global,
     file: u32,
     source: &[u8],
-    tokens: &[Token],
+    tokens: Vec<Token>,
     marks: Items<Place>,
 ) -> Result<Source, LoadFault>
     requires short { length source.now ≤ 1048576 }
-    requires few { length tokens.now ≤ 1048576 }
-    requires marks { marks ≡ places.marks file source.now tokens.now }
-    ensures exact { IsReading (spec.read_tokens file source.now tokens.now) result }
+    requires few { length tokens.items ≤ 1048576 }
+    requires marks { marks ≡ places.marks file source.now tokens.items }
+    ensures exact { IsReading (spec.read_tokens file source.now tokens.items) result }
     ensures spelling { IfErr result IsSpelling }
 {
     match parse(alloc, tokens) {
@@ -84,7 +87,7 @@ fn parsed(
             marks,
             key: Key::of(source),
         }),
-        Err(fault) => Err(grammatical(file, source, tokens, fault)),
+        Err(fault) => Err(grammatical(file, source, marks.as_slice(), fault)),
     }
 }
 
@@ -114,24 +117,27 @@ fn lexical(file: u32, source: &[u8], fault: LexFault) -> LoadFault
 }
 
 /// A fault of the grammar, which stands at a token, or at the end where there is none.
-fn grammatical(file: u32, source: &[u8], tokens: &[Token], fault: ParseFault) -> LoadFault
+fn grammatical(file: u32, source: &[u8], marks: &[Place], fault: ParseFault) -> LoadFault
     requires { length source.now ≤ 1048576 }
-    ensures exact { result ≡ spec.grammatical file source.now tokens.now fault }
+    ensures exact { (tokens : List Token) → marks.now ≡ places.marks file source.now tokens →
+        result ≡ spec.grammatical file source.now tokens fault }
     ensures spelling { IsSpelling result }
 {
     match fault {
-        ParseFault::TooDeep(k) => wrong(
-            file,
-            source,
-            SpellingCause::TooDeep,
-            offset_of(tokens, k, source.len()),
-        ),
-        ParseFault::Syntax(k) => wrong(
-            file,
-            source,
-            SpellingCause::Syntax,
-            offset_of(tokens, k, source.len()),
-        ),
+        ParseFault::TooDeep(k) => {
+            misspelled(
+                file,
+                SpellingCause::TooDeep,
+                place_at(file, source, marks, k),
+            )
+        }
+        ParseFault::Syntax(k) => {
+            misspelled(
+                file,
+                SpellingCause::Syntax,
+                place_at(file, source, marks, k),
+            )
+        }
         ParseFault::Memory => LoadFault::Memory,
     }
 }
@@ -143,18 +149,29 @@ fn wrong(file: u32, source: &[u8], cause: SpellingCause, offset: usize) -> LoadF
     ensures spelling { IsSpelling result }
 {
     let place = place_of(file, source, offset);
+    misspelled(file, cause, place)
+}
+
+/// The fault of a text that is wrong so at that place.
+fn misspelled(file: u32, cause: SpellingCause, place: Place) -> LoadFault
+    ensures exact { result ≡ At (Spelling cause place) file }
+    ensures spelling { IsSpelling result }
+{
     LoadFault::At {
         cause: LoadCause::Spelling { cause, place },
         file,
     }
 }
 
-/// Where the token of that number begins, or the end where there is none.
-fn offset_of(tokens: &[Token], k: usize, end: usize) -> usize
-    ensures { result ≡ spec.offset_of tokens.now k end }
+/// The place of the token of that number, or that of the end where there is none.
+#[tactic(auto, using(crate::proofs::Places::place_of_token, crate::proofs::Places::no_token))]
+fn place_at(file: u32, source: &[u8], marks: &[Place], k: usize) -> Place
+    requires { length source.now ≤ 1048576 }
+    ensures { (tokens : List Token) → marks.now ≡ places.marks file source.now tokens →
+        result ≡ places.place_of file source.now (spec.offset_of tokens k (length source.now)) }
 {
-    match tokens.get(k) {
-        Some(token) => token.start as usize,
-        None => end,
+    match marks.get(k) {
+        Some(place) => *place,
+        None => place_of(file, source, source.len()),
     }
 }

@@ -55,12 +55,12 @@ fn starts_what(side: SideOf, kind: &Kind) -> bool
     }
 }
 
-fn sees_member(tokens: &Tokens<'_>, side: SideOf) -> bool
+fn sees_member(tokens: &Tokens, side: SideOf) -> bool
     ensures { result ≡ next_is (spec.starts_member side) tokens.now }
 {
-    match tokens.rest {
-        [first, ..] => is_access(&first.kind) || starts_what(side, &first.kind),
-        [] => false,
+    match tokens.next() {
+        Some(kind) => is_access(kind) || starts_what(side, kind),
+        None => false,
     }
 }
 
@@ -68,7 +68,7 @@ fn sees_member(tokens: &Tokens<'_>, side: SideOf) -> bool
 #[tactic(auto, unfolding(crate::specs::Classes::super_message))]
 fn super_message(
     alloc: Global,
-    tokens: &mut Tokens<'_>,
+    tokens: &mut Tokens,
     depth: usize,
 ) -> Result<Option<Message>, ParseFault>
     ensures { Reads (option_map message_of) (spec.super_message (exprs.primary depth)) result tokens.old tokens.new }
@@ -85,7 +85,7 @@ fn super_message(
 }
 
 /// Reads the sign between a mixin and its superclass, and the superclass, if they are there.
-fn over(alloc: Global, tokens: &mut Tokens<'_>) -> Result<Option<Base>, ParseFault>
+fn over(alloc: Global, tokens: &mut Tokens) -> Result<Option<Base>, ParseFault>
     ensures { Reads (λ base. base) spec.over result tokens.old tokens.new }
 {
     if sees(tokens, Mark::Over) {
@@ -99,7 +99,7 @@ fn over(alloc: Global, tokens: &mut Tokens<'_>) -> Result<Option<Base>, ParseFau
 
 /// Reads a superclass clause.
 #[tactic(auto, unfolding(crate::specs::Classes::clause))]
-fn clause(alloc: Global, tokens: &mut Tokens<'_>, depth: usize) -> Result<SuperClause, ParseFault>
+fn clause(alloc: Global, tokens: &mut Tokens, depth: usize) -> Result<SuperClause, ParseFault>
     ensures { Reads clause_of (spec.clause (exprs.primary depth)) result tokens.old tokens.new }
 {
     let head = base(alloc, tokens)?;
@@ -111,7 +111,7 @@ fn clause(alloc: Global, tokens: &mut Tokens<'_>, depth: usize) -> Result<SuperC
 /// Reads a superclass clause, if there is one.
 fn maybe_clause(
     alloc: Global,
-    tokens: &mut Tokens<'_>,
+    tokens: &mut Tokens,
     depth: usize,
 ) -> Result<Option<SuperClause>, ParseFault>
     ensures { Reads (option_map clause_of) (read_maybe patterns.starts_base (spec.clause (exprs.primary depth))) result tokens.old tokens.new }
@@ -127,7 +127,7 @@ fn maybe_clause(
 /// Reads an equals sign and a superclass clause, if there is one.
 fn equals_clause(
     alloc: Global,
-    tokens: &mut Tokens<'_>,
+    tokens: &mut Tokens,
     depth: usize,
 ) -> Result<Option<SuperClause>, ParseFault>
     ensures { Reads (option_map clause_of) (spec.equals_clause (exprs.primary depth)) result tokens.old tokens.new }
@@ -140,7 +140,7 @@ fn equals_clause(
 #[tactic(auto, unfolding(crate::specs::Classes::body))]
 fn body(
     alloc: Global,
-    tokens: &mut Tokens<'_>,
+    tokens: &mut Tokens,
     depth: usize,
     holder: Holder,
 ) -> Result<(Option<Vec<Slot>>, Statements), ParseFault>
@@ -154,7 +154,7 @@ fn body(
 
 /// Reads a method.
 #[tactic(auto, unfolding(crate::specs::Classes::method))]
-fn method(alloc: Global, tokens: &mut Tokens<'_>, depth: usize) -> Result<Method, ParseFault>
+fn method(alloc: Global, tokens: &mut Tokens, depth: usize) -> Result<Method, ParseFault>
     ensures { Reads method_of (spec.method (exprs.primary depth)) result tokens.old tokens.new }
 {
     let pattern = pattern(alloc, tokens)?;
@@ -164,7 +164,7 @@ fn method(alloc: Global, tokens: &mut Tokens<'_>, depth: usize) -> Result<Method
 }
 
 /// Reads a method as a member.
-fn method_member(alloc: Global, tokens: &mut Tokens<'_>, depth: usize) -> Result<What, ParseFault>
+fn method_member(alloc: Global, tokens: &mut Tokens, depth: usize) -> Result<What, ParseFault>
     ensures { Reads what_of (spec.method_member (exprs.primary depth)) result tokens.old tokens.new }
 {
     let method = method(alloc, tokens, depth)?;
@@ -175,7 +175,7 @@ fn method_member(alloc: Global, tokens: &mut Tokens<'_>, depth: usize) -> Result
 #[tactic(auto, unfolding(crate::specs::Classes::head))]
 fn head(
     alloc: Global,
-    tokens: &mut Tokens<'_>,
+    tokens: &mut Tokens,
     depth: usize,
 ) -> Result<(Named, Option<Pattern>, Option<SuperClause>), ParseFault>
     ensures { Reads head_view (spec.head (exprs.primary depth)) result tokens.old tokens.new }
@@ -201,11 +201,7 @@ struct Opening {
 }
 
 /// Reads what stands before the sides of a class.
-fn class_opening(
-    alloc: Global,
-    tokens: &mut Tokens<'_>,
-    depth: usize,
-) -> Result<Opening, ParseFault>
+fn class_opening(alloc: Global, tokens: &mut Tokens, depth: usize) -> Result<Opening, ParseFault>
     ensures { Reads opening_view (spec.class_opening (exprs.primary depth)) result tokens.old tokens.new }
 {
     let head = head(alloc, tokens, depth)?;
@@ -233,7 +229,7 @@ fn whole_class(opening: Opening, sides: (Side, Option<Side>)) -> Class
 #[tactic(auto, unfolding(crate::specs::Classes::what))]
 fn what(
     alloc: Global,
-    tokens: &mut Tokens<'_>,
+    tokens: &mut Tokens,
     depth: usize,
     nesting: usize,
 ) -> Result<What, ParseFault>
@@ -252,7 +248,7 @@ fn what(
 #[tactic(auto, unfolding(crate::specs::Classes::class_or_method))]
 fn class_or_method(
     alloc: Global,
-    tokens: &mut Tokens<'_>,
+    tokens: &mut Tokens,
     depth: usize,
     nesting: usize,
 ) -> Result<What, ParseFault>
@@ -272,7 +268,7 @@ fn class_or_method(
 #[tactic(auto, unfolding(crate::specs::Classes::class))]
 fn class(
     alloc: Global,
-    tokens: &mut Tokens<'_>,
+    tokens: &mut Tokens,
     depth: usize,
     nesting: usize,
 ) -> Result<Class, ParseFault>
@@ -292,7 +288,7 @@ fn class(
 #[cycle(classes)]
 fn both_sides(
     alloc: Global,
-    tokens: &mut Tokens<'_>,
+    tokens: &mut Tokens,
     depth: usize,
     nesting: usize,
 ) -> Result<(Side, Option<Side>), ParseFault>
@@ -313,7 +309,7 @@ fn both_sides(
 #[tactic(auto, unfolding(crate::specs::Classes::class_side))]
 fn class_side(
     alloc: Global,
-    tokens: &mut Tokens<'_>,
+    tokens: &mut Tokens,
     depth: usize,
     nesting: usize,
 ) -> Result<Option<Side>, ParseFault>
@@ -333,7 +329,7 @@ fn class_side(
 #[tactic(auto, unfolding(crate::specs::Classes::side))]
 fn side(
     alloc: Global,
-    tokens: &mut Tokens<'_>,
+    tokens: &mut Tokens,
     depth: usize,
     nesting: usize,
     side: SideOf,
@@ -350,7 +346,7 @@ fn side(
 #[cycle(classes)]
 fn members(
     alloc: Global,
-    tokens: &mut Tokens<'_>,
+    tokens: &mut Tokens,
     depth: usize,
     nesting: usize,
     side: SideOf,
@@ -383,7 +379,7 @@ fn members(
 #[cycle(classes)]
 fn member(
     alloc: Global,
-    tokens: &mut Tokens<'_>,
+    tokens: &mut Tokens,
     depth: usize,
     nesting: usize,
     side: SideOf,
@@ -399,7 +395,7 @@ fn member(
 #[cycle(classes)]
 fn what_of(
     alloc: Global,
-    tokens: &mut Tokens<'_>,
+    tokens: &mut Tokens,
     depth: usize,
     nesting: usize,
     side: SideOf,
@@ -413,7 +409,7 @@ fn what_of(
 }
 
 /// Reads the category of a file, if there is one.
-fn category(alloc: Global, tokens: &mut Tokens<'_>) -> Result<Option<Text>, ParseFault>
+fn category(alloc: Global, tokens: &mut Tokens) -> Result<Option<Text>, ParseFault>
     ensures { Reads (λ text. text) spec.category result tokens.old tokens.new }
 {
     if sees_string(tokens) {
@@ -426,7 +422,7 @@ fn category(alloc: Global, tokens: &mut Tokens<'_>) -> Result<Option<Text>, Pars
 
 /// Reads a file.
 #[tactic(auto, unfolding(crate::specs::Classes::file))]
-pub fn file(alloc: Global, tokens: &mut Tokens<'_>, depth: usize) -> Result<Unit, ParseFault>
+pub fn file(alloc: Global, tokens: &mut Tokens, depth: usize) -> Result<Unit, ParseFault>
     ensures { Reads unit_of (spec.file depth) result tokens.old tokens.new }
 {
     let marker = skip_if(tokens, Mark::Newspeak3);

@@ -32,7 +32,7 @@ pub enum Holder {
 }
 
 /// Reads the access word of a slot, if it may have one and has it.
-fn slot_access(tokens: &mut Tokens<'_>, holder: Holder) -> Option<Access>
+fn slot_access(tokens: &mut Tokens, holder: Holder) -> Option<Access>
     ensures { ReaderGives (spec.slot_access holder) result tokens.old tokens.new }
 {
     match holder {
@@ -44,7 +44,7 @@ fn slot_access(tokens: &mut Tokens<'_>, holder: Holder) -> Option<Access>
 /// Reads a primary.
 #[cycle(exprs)]
 #[tactic(auto, unfolding(crate::specs::Expressions::primary))]
-fn primary(alloc: Global, tokens: &mut Tokens<'_>, depth: usize) -> Result<Primary, ParseFault>
+fn primary(alloc: Global, tokens: &mut Tokens, depth: usize) -> Result<Primary, ParseFault>
     ensures { Reads primary_of (spec.primary depth) result tokens.old tokens.new }
 {
     if depth == 0 {
@@ -59,7 +59,7 @@ fn primary(alloc: Global, tokens: &mut Tokens<'_>, depth: usize) -> Result<Prima
 /// Reads a primary within whose brackets so many may open.
 #[cycle(exprs)]
 #[tactic(auto, unfolding(crate::specs::Expressions::any_primary))]
-fn any_primary(alloc: Global, tokens: &mut Tokens<'_>, depth: usize) -> Result<Primary, ParseFault>
+fn any_primary(alloc: Global, tokens: &mut Tokens, depth: usize) -> Result<Primary, ParseFault>
     ensures { Reads primary_of (spec.any_primary (spec.primary depth)) result tokens.old tokens.new }
 {
     if sees_leaf(tokens) {
@@ -72,7 +72,7 @@ fn any_primary(alloc: Global, tokens: &mut Tokens<'_>, depth: usize) -> Result<P
 /// Reads an expression in parentheses, a block or a tuple.
 #[cycle(exprs)]
 #[tactic(auto, unfolding(crate::specs::Expressions::bracketed))]
-fn bracketed(alloc: Global, tokens: &mut Tokens<'_>, depth: usize) -> Result<Primary, ParseFault>
+fn bracketed(alloc: Global, tokens: &mut Tokens, depth: usize) -> Result<Primary, ParseFault>
     ensures { Reads primary_of (spec.bracketed (spec.primary depth)) result tokens.old tokens.new }
 {
     if sees(tokens, Mark::Open) {
@@ -86,7 +86,7 @@ fn bracketed(alloc: Global, tokens: &mut Tokens<'_>, depth: usize) -> Result<Pri
 
 /// Reads an expression in parentheses.
 #[cycle(exprs)]
-fn paren(alloc: Global, tokens: &mut Tokens<'_>, depth: usize) -> Result<Primary, ParseFault>
+fn paren(alloc: Global, tokens: &mut Tokens, depth: usize) -> Result<Primary, ParseFault>
     ensures { Reads primary_of (spec.paren (spec.primary depth)) result tokens.old tokens.new }
 {
     skip(tokens, Mark::Open)?;
@@ -97,11 +97,7 @@ fn paren(alloc: Global, tokens: &mut Tokens<'_>, depth: usize) -> Result<Primary
 
 /// Reads a block with its brackets.
 #[cycle(exprs)]
-fn block_literal(
-    alloc: Global,
-    tokens: &mut Tokens<'_>,
-    depth: usize,
-) -> Result<Primary, ParseFault>
+fn block_literal(alloc: Global, tokens: &mut Tokens, depth: usize) -> Result<Primary, ParseFault>
     ensures { Reads primary_of (spec.block_literal (spec.primary depth)) result tokens.old tokens.new }
 {
     skip(tokens, Mark::OpenBlock)?;
@@ -112,7 +108,7 @@ fn block_literal(
 
 /// Reads a tuple.
 #[cycle(exprs)]
-fn tuple(alloc: Global, tokens: &mut Tokens<'_>, depth: usize) -> Result<Primary, ParseFault>
+fn tuple(alloc: Global, tokens: &mut Tokens, depth: usize) -> Result<Primary, ParseFault>
     ensures { Reads primary_of (spec.tuple (spec.primary depth)) result tokens.old tokens.new }
 {
     skip(tokens, Mark::OpenTuple)?;
@@ -123,7 +119,7 @@ fn tuple(alloc: Global, tokens: &mut Tokens<'_>, depth: usize) -> Result<Primary
 /// Reads a primary and the names that are sent to it.
 #[cycle(exprs)]
 #[tactic(auto, unfolding(crate::specs::Expressions::un))]
-fn un(alloc: Global, tokens: &mut Tokens<'_>, depth: usize) -> Result<UnExpr, ParseFault>
+fn un(alloc: Global, tokens: &mut Tokens, depth: usize) -> Result<UnExpr, ParseFault>
     ensures { Reads un_of (spec.un (spec.primary depth)) result tokens.old tokens.new }
 {
     let at = tokens.at as u32;
@@ -141,7 +137,7 @@ fn un(alloc: Global, tokens: &mut Tokens<'_>, depth: usize) -> Result<UnExpr, Pa
 #[cycle(exprs)]
 fn oper(
     alloc: Global,
-    tokens: &mut Tokens<'_>,
+    tokens: &mut Tokens,
     depth: usize,
     operators: Operators,
 ) -> Result<(Named, UnExpr), ParseFault>
@@ -156,7 +152,7 @@ fn oper(
 #[cycle(exprs)]
 fn opers(
     alloc: Global,
-    tokens: &mut Tokens<'_>,
+    tokens: &mut Tokens,
     depth: usize,
     operators: Operators,
 ) -> Result<Vec<(Named, UnExpr)>, ParseFault>
@@ -175,7 +171,7 @@ fn opers(
 #[tactic(auto, unfolding(crate::specs::Expressions::bin))]
 fn bin(
     alloc: Global,
-    tokens: &mut Tokens<'_>,
+    tokens: &mut Tokens,
     depth: usize,
     operators: Operators,
 ) -> Result<BinExpr, ParseFault>
@@ -195,7 +191,7 @@ fn bin(
 #[cycle(exprs)]
 fn key(
     alloc: Global,
-    tokens: &mut Tokens<'_>,
+    tokens: &mut Tokens,
     depth: usize,
     operators: Operators,
 ) -> Result<(Named, BinExpr), ParseFault>
@@ -210,7 +206,7 @@ fn key(
 #[cycle(exprs)]
 pub fn keys(
     alloc: Global,
-    tokens: &mut Tokens<'_>,
+    tokens: &mut Tokens,
     depth: usize,
     operators: Operators,
 ) -> Result<Vec<(Named, BinExpr)>, ParseFault>
@@ -229,7 +225,7 @@ pub fn keys(
 #[tactic(auto, unfolding(crate::specs::Expressions::key_expr))]
 fn key_expr(
     alloc: Global,
-    tokens: &mut Tokens<'_>,
+    tokens: &mut Tokens,
     depth: usize,
     operators: Operators,
 ) -> Result<KeyExpr, ParseFault>
@@ -257,7 +253,7 @@ fn key_expr(
 #[tactic(auto, unfolding(crate::specs::Expressions::message))]
 fn message(
     alloc: Global,
-    tokens: &mut Tokens<'_>,
+    tokens: &mut Tokens,
     depth: usize,
     operators: Operators,
 ) -> Result<Message, ParseFault>
@@ -281,7 +277,7 @@ fn message(
 #[cycle(exprs)]
 fn cascaded(
     alloc: Global,
-    tokens: &mut Tokens<'_>,
+    tokens: &mut Tokens,
     depth: usize,
     operators: Operators,
 ) -> Result<(u32, Message), ParseFault>
@@ -296,7 +292,7 @@ fn cascaded(
 #[cycle(exprs)]
 fn cascade(
     alloc: Global,
-    tokens: &mut Tokens<'_>,
+    tokens: &mut Tokens,
     depth: usize,
     operators: Operators,
 ) -> Result<Vec<(u32, Message)>, ParseFault>
@@ -315,7 +311,7 @@ fn cascade(
 #[tactic(auto, unfolding(crate::specs::Expressions::expr))]
 fn expr(
     alloc: Global,
-    tokens: &mut Tokens<'_>,
+    tokens: &mut Tokens,
     depth: usize,
     operators: Operators,
 ) -> Result<Expr, ParseFault>
@@ -334,7 +330,7 @@ fn expr(
 
 /// Reads an expression and the full stop behind it.
 #[cycle(exprs)]
-fn value(alloc: Global, tokens: &mut Tokens<'_>, depth: usize) -> Result<Expr, ParseFault>
+fn value(alloc: Global, tokens: &mut Tokens, depth: usize) -> Result<Expr, ParseFault>
     ensures { Reads expr_of (spec.value (spec.primary depth)) result tokens.old tokens.new }
 {
     let value = expr(alloc, tokens, depth, Operators::ButBar)?;
@@ -344,7 +340,7 @@ fn value(alloc: Global, tokens: &mut Tokens<'_>, depth: usize) -> Result<Expr, P
 /// Reads how a slot begins.
 #[cycle(exprs)]
 #[tactic(auto, unfolding(crate::specs::Expressions::init))]
-fn init(alloc: Global, tokens: &mut Tokens<'_>, depth: usize) -> Result<SlotInit, ParseFault>
+fn init(alloc: Global, tokens: &mut Tokens, depth: usize) -> Result<SlotInit, ParseFault>
     ensures { Reads init_of (spec.init (spec.primary depth)) result tokens.old tokens.new }
 {
     if sees(tokens, Mark::Equals) {
@@ -366,7 +362,7 @@ fn init(alloc: Global, tokens: &mut Tokens<'_>, depth: usize) -> Result<SlotInit
 #[tactic(auto, unfolding(crate::specs::Expressions::slot))]
 fn slot(
     alloc: Global,
-    tokens: &mut Tokens<'_>,
+    tokens: &mut Tokens,
     depth: usize,
     holder: Holder,
 ) -> Result<Slot, ParseFault>
@@ -382,7 +378,7 @@ fn slot(
 #[cycle(exprs)]
 fn slots(
     alloc: Global,
-    tokens: &mut Tokens<'_>,
+    tokens: &mut Tokens,
     depth: usize,
     holder: Holder,
 ) -> Result<Vec<Slot>, ParseFault>
@@ -401,7 +397,7 @@ fn slots(
 #[tactic(auto, unfolding(crate::specs::Expressions::bars))]
 pub fn bars(
     alloc: Global,
-    tokens: &mut Tokens<'_>,
+    tokens: &mut Tokens,
     depth: usize,
     holder: Holder,
 ) -> Result<Option<Vec<Slot>>, ParseFault>
@@ -420,7 +416,7 @@ pub fn bars(
 /// Reads a statement.
 #[cycle(exprs)]
 #[tactic(auto, unfolding(crate::specs::Expressions::statement))]
-fn statement(alloc: Global, tokens: &mut Tokens<'_>, depth: usize) -> Result<Statement, ParseFault>
+fn statement(alloc: Global, tokens: &mut Tokens, depth: usize) -> Result<Statement, ParseFault>
     ensures { Reads statement_of (spec.statement (spec.primary depth)) result tokens.old tokens.new }
 {
     let caret = place_if(tokens, Mark::Caret);
@@ -432,7 +428,7 @@ fn statement(alloc: Global, tokens: &mut Tokens<'_>, depth: usize) -> Result<Sta
 #[cycle(exprs)]
 pub fn statements(
     alloc: Global,
-    tokens: &mut Tokens<'_>,
+    tokens: &mut Tokens,
     depth: usize,
 ) -> Result<Statements, ParseFault>
     ensures { Reads statements_of (spec.statements (spec.primary depth)) result tokens.old tokens.new }
@@ -451,7 +447,7 @@ pub fn statements(
 
 /// Reads the elements of a tuple, as many as there are.
 #[cycle(exprs)]
-fn tuple_items(alloc: Global, tokens: &mut Tokens<'_>, depth: usize) -> Result<Primary, ParseFault>
+fn tuple_items(alloc: Global, tokens: &mut Tokens, depth: usize) -> Result<Primary, ParseFault>
     ensures { Reads primary_of (spec.tuple_items (spec.primary depth)) result tokens.old tokens.new }
 {
     let mut items = Vec::new(alloc);
@@ -469,7 +465,7 @@ fn tuple_items(alloc: Global, tokens: &mut Tokens<'_>, depth: usize) -> Result<P
 /// Reads what stands in a block.
 #[cycle(exprs)]
 #[tactic(auto, unfolding(crate::specs::Expressions::block))]
-fn block(alloc: Global, tokens: &mut Tokens<'_>, depth: usize) -> Result<Block, ParseFault>
+fn block(alloc: Global, tokens: &mut Tokens, depth: usize) -> Result<Block, ParseFault>
     ensures { Reads block_of (spec.block (spec.primary depth)) result tokens.old tokens.new }
 {
     let params = params(alloc, tokens)?;

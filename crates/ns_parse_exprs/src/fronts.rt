@@ -43,51 +43,51 @@ fn starts_slot(holder: Holder, kind: &Kind) -> bool
 }
 
 /// Whether a primary without brackets is next.
-pub fn sees_leaf(tokens: &Tokens<'_>) -> bool
+pub fn sees_leaf(tokens: &Tokens) -> bool
     ensures { result ≡ next_is leaves.starts_leaf tokens.now }
 {
-    match tokens.rest {
-        [first, ..] => starts_leaf(&first.kind),
-        [] => false,
+    match tokens.next() {
+        Some(kind) => starts_leaf(kind),
+        None => false,
     }
 }
 
 /// Whether a receiver or an argument is next.
-pub fn sees_un(tokens: &Tokens<'_>) -> bool
+pub fn sees_un(tokens: &Tokens) -> bool
     ensures { result ≡ next_is spec.starts_un tokens.now }
 {
-    match tokens.rest {
-        [first, ..] => starts_un(&first.kind),
-        [] => false,
+    match tokens.next() {
+        Some(kind) => starts_un(kind),
+        None => false,
     }
 }
 
 /// Whether an expression is next.
-pub fn sees_expr(tokens: &Tokens<'_>) -> bool
+pub fn sees_expr(tokens: &Tokens) -> bool
     ensures { result ≡ next_is spec.starts_expr tokens.now }
 {
-    match tokens.rest {
-        [first, ..] => starts_expr(&first.kind),
-        [] => false,
+    match tokens.next() {
+        Some(kind) => starts_expr(kind),
+        None => false,
     }
 }
 
 /// Whether a statement is next.
-pub fn sees_statement(tokens: &Tokens<'_>) -> bool
+pub fn sees_statement(tokens: &Tokens) -> bool
     ensures { result ≡ next_is spec.starts_statement tokens.now }
 {
-    match tokens.rest {
-        [first, ..] => starts_statement(&first.kind),
-        [] => false,
+    match tokens.next() {
+        Some(kind) => starts_statement(kind),
+        None => false,
     }
 }
 
 /// Whether a slot is next.
-pub fn sees_slot(tokens: &Tokens<'_>, holder: Holder) -> bool
+pub fn sees_slot(tokens: &Tokens, holder: Holder) -> bool
     ensures { result ≡ next_is (spec.starts_slot holder) tokens.now }
 {
-    match tokens.rest {
-        [first, ..] => starts_slot(holder, &first.kind),
-        [] => false,
+    match tokens.next() {
+        Some(kind) => starts_slot(holder, kind),
+        None => false,
     }
 }

@@ -17,58 +17,56 @@ use ns_tree::tree::{Access, Primary};
 use std::alloc::Global;
 
 /// Reads a number.
-fn number(tokens: &mut Tokens<'_>) -> Result<u64, ParseFault>
+fn number(tokens: &mut Tokens) -> Result<u64, ParseFault>
     ensures { Reads (λ size. size) spec.number result tokens.old tokens.new }
 {
     let at = tokens.at;
-    match tokens.rest {
-        [first, rest @ ..] => match &first.kind {
+    match tokens.next() {
+        Some(kind) => match kind {
             Kind::Number(size) => {
                 let size = *size;
-                tokens.rest = rest;
-                tokens.at = at + 1;
+                tokens.pass();
                 Ok(size)
             }
             _ => Err(ParseFault::Syntax(at)),
         },
-        [] => Err(ParseFault::Syntax(at)),
+        None => Err(ParseFault::Syntax(at)),
     }
 }
 
 /// Whether a string is next.
-pub fn sees_string(tokens: &Tokens<'_>) -> bool
+pub fn sees_string(tokens: &Tokens) -> bool
     ensures { result ≡ next_is spec.is_string tokens.now }
 {
-    match tokens.rest {
-        [first, ..] => match &first.kind {
+    match tokens.next() {
+        Some(kind) => match kind {
             Kind::Str(_) => true,
             _ => false,
         },
-        [] => false,
+        None => false,
     }
 }
 
 /// Reads a string.
-pub fn string(alloc: Global, tokens: &mut Tokens<'_>) -> Result<Text, ParseFault>
+pub fn string(alloc: Global, tokens: &mut Tokens) -> Result<Text, ParseFault>
     ensures { Reads (λ text. text) spec.string result tokens.old tokens.new }
 {
     let at = tokens.at;
-    match tokens.rest {
-        [first, rest @ ..] => match &first.kind {
+    match tokens.next() {
+        Some(kind) => match kind {
             Kind::Str(text) => {
                 let text = Text::of(alloc, text.bytes())?;
-                tokens.rest = rest;
-                tokens.at = at + 1;
+                tokens.pass();
                 Ok(text)
             }
             _ => Err(ParseFault::Syntax(at)),
         },
-        [] => Err(ParseFault::Syntax(at)),
+        None => Err(ParseFault::Syntax(at)),
     }
 }
 
 /// Reads strings, as many as there are.
-pub fn strings(alloc: Global, tokens: &mut Tokens<'_>) -> Result<Vec<Text>, ParseFault>
+pub fn strings(alloc: Global, tokens: &mut Tokens) -> Result<Vec<Text>, ParseFault>
     ensures { Reads (λ texts. texts.items) spec.strings result tokens.old tokens.new }
 {
     let mut texts = Vec::new(alloc);
@@ -109,20 +107,18 @@ pub fn is_access(kind: &Kind) -> bool
 }
 
 /// Reads an access word, if there is one.
-pub fn access(tokens: &mut Tokens<'_>) -> Option<Access>
+pub fn access(tokens: &mut Tokens) -> Option<Access>
     ensures { ReaderGives spec.maybe_access result tokens.old tokens.new }
 {
-    let at = tokens.at;
-    match tokens.rest {
-        [first, rest @ ..] => match kind_access(&first.kind) {
+    match tokens.next() {
+        Some(kind) => match kind_access(kind) {
             Some(access) => {
-                tokens.rest = rest;
-                tokens.at = at + 1;
+                tokens.pass();
                 Some(access)
             }
             None => None,
         },
-        [] => None,
+        None => None,
     }
 }
 
@@ -174,36 +170,35 @@ fn is_simple(kind: &Kind) -> bool
 }
 
 /// Whether a primary of one token is next.
-fn sees_simple(tokens: &Tokens<'_>) -> bool
+fn sees_simple(tokens: &Tokens) -> bool
     ensures { result ≡ next_is spec.is_simple tokens.now }
 {
-    match tokens.rest {
-        [first, ..] => is_simple(&first.kind),
-        [] => false,
+    match tokens.next() {
+        Some(kind) => is_simple(kind),
+        None => false,
     }
 }
 
 /// Reads a primary of one token.
-fn simple(alloc: Global, tokens: &mut Tokens<'_>) -> Result<Primary, ParseFault>
+fn simple(alloc: Global, tokens: &mut Tokens) -> Result<Primary, ParseFault>
     ensures { Reads primary_of spec.simple result tokens.old tokens.new }
 {
     let at = tokens.at;
-    match tokens.rest {
-        [first, rest @ ..] => match kind_primary(alloc, &first.kind)? {
+    match tokens.next() {
+        Some(kind) => match kind_primary(alloc, kind)? {
             Some(primary) => {
-                tokens.rest = rest;
-                tokens.at = at + 1;
+                tokens.pass();
                 Ok(primary)
             }
             None => Err(ParseFault::Syntax(at)),
         },
-        [] => Err(ParseFault::Syntax(at)),
+        None => Err(ParseFault::Syntax(at)),
     }
 }
 
 /// Reads a primary without brackets.
 #[tactic(auto, unfolding(crate::specs::Leaf::leaf))]
-pub fn leaf(alloc: Global, tokens: &mut Tokens<'_>) -> Result<Primary, ParseFault>
+pub fn leaf(alloc: Global, tokens: &mut Tokens) -> Result<Primary, ParseFault>
     ensures { Reads primary_of spec.leaf result tokens.old tokens.new }
 {
     if sees_simple(tokens) {

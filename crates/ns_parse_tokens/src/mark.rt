@@ -96,93 +96,88 @@ fn is_ident(mark: Mark, text: &[u8]) -> bool
 }
 
 /// Whether the mark is the next token.
-pub fn sees(tokens: &Tokens<'_>, mark: Mark) -> bool
+pub fn sees(tokens: &Tokens, mark: Mark) -> bool
     ensures { result ≡ next_is (spec.is_mark mark) tokens.now }
 {
-    match tokens.rest {
-        [first, ..] => is_mark(mark, &first.kind),
-        [] => false,
+    match tokens.next() {
+        Some(kind) => is_mark(mark, kind),
+        None => false,
     }
 }
 
 /// Reads the mark, and answers its number.
-pub fn place(tokens: &mut Tokens<'_>, mark: Mark) -> Result<u32, ParseFault>
+pub fn place(tokens: &mut Tokens, mark: Mark) -> Result<u32, ParseFault>
     ensures { Reads (λ at. at) (spec.place mark) result tokens.old tokens.new }
 {
     let at = tokens.at;
-    match tokens.rest {
-        [first, rest @ ..] => {
-            if is_mark(mark, &first.kind) {
-                tokens.rest = rest;
-                tokens.at = at + 1;
+    match tokens.next() {
+        Some(kind) => {
+            if is_mark(mark, kind) {
+                tokens.pass();
                 Ok(at as u32)
             } else {
                 Err(ParseFault::Syntax(at))
             }
         }
-        [] => Err(ParseFault::Syntax(at)),
+        None => Err(ParseFault::Syntax(at)),
     }
 }
 
 /// Reads the mark.
-pub fn skip(tokens: &mut Tokens<'_>, mark: Mark) -> Result<(), ParseFault>
+pub fn skip(tokens: &mut Tokens, mark: Mark) -> Result<(), ParseFault>
     ensures { Reads (λ none. none) (spec.skip mark) result tokens.old tokens.new }
 {
     let at = tokens.at;
-    match tokens.rest {
-        [first, rest @ ..] => {
-            if is_mark(mark, &first.kind) {
-                tokens.rest = rest;
-                tokens.at = at + 1;
+    match tokens.next() {
+        Some(kind) => {
+            if is_mark(mark, kind) {
+                tokens.pass();
                 Ok(())
             } else {
                 Err(ParseFault::Syntax(at))
             }
         }
-        [] => Err(ParseFault::Syntax(at)),
+        None => Err(ParseFault::Syntax(at)),
     }
 }
 
 /// Reads the mark if it is next, and answers whether it was.
-pub fn skip_if(tokens: &mut Tokens<'_>, mark: Mark) -> bool
+pub fn skip_if(tokens: &mut Tokens, mark: Mark) -> bool
     ensures { ReaderGives (spec.flag mark) result tokens.old tokens.new }
 {
-    let at = tokens.at;
-    match tokens.rest {
-        [first, rest @ ..] => {
-            if is_mark(mark, &first.kind) {
-                tokens.rest = rest;
-                tokens.at = at + 1;
+    match tokens.next() {
+        Some(kind) => {
+            if is_mark(mark, kind) {
+                tokens.pass();
                 true
             } else {
                 false
             }
         }
-        [] => false,
+        None => false,
     }
 }
 
 /// Reads the mark if it is next, and answers its number.
-pub fn place_if(tokens: &mut Tokens<'_>, mark: Mark) -> Option<u32>
+pub fn place_if(tokens: &mut Tokens, mark: Mark) -> Option<u32>
     ensures { ReaderGives (spec.maybe_place mark) result tokens.old tokens.new }
 {
     let at = tokens.at;
-    match tokens.rest {
-        [first, rest @ ..] => {
-            if is_mark(mark, &first.kind) {
-                tokens.rest = rest;
-                tokens.at = at + 1;
+    match tokens.next() {
+        Some(kind) => {
+            if is_mark(mark, kind) {
+                tokens.pass();
                 Some(at as u32)
             } else {
                 None
             }
         }
-        [] => None,
+        None => None,
     }
 }
 
 /// Reads the mark behind what was read before, and hands that back.
-pub fn closed<T: Drop>(tokens: &mut Tokens<'_>, mark: Mark, inner: T) -> Result<T, ParseFault>
+pub fn closed<T: Drop>(tokens: &mut Tokens, mark: Mark, inner: T) -> Result<T, ParseFault>
     ensures read { Reads (λ _. tt) (spec.skip mark) result tokens.old tokens.new }
     ensures kept { IfOk result (λ it. it ≡ inner) }
 {

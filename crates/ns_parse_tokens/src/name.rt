@@ -66,26 +66,25 @@ fn text_of(kind: &Kind) -> &[u8]
 }
 
 /// Whether a token of that sort is next.
-pub fn sees_name(tokens: &Tokens<'_>, sort: Sort) -> bool
+pub fn sees_name(tokens: &Tokens, sort: Sort) -> bool
     ensures { result ≡ next_is (spec.is_name sort) tokens.now }
 {
-    match tokens.rest {
-        [first, ..] => is_name(sort, &first.kind),
-        [] => false,
+    match tokens.next() {
+        Some(kind) => is_name(sort, kind),
+        None => false,
     }
 }
 
 /// Reads a token of that sort.
-pub fn name(alloc: Global, tokens: &mut Tokens<'_>, sort: Sort) -> Result<Named, ParseFault>
+pub fn name(alloc: Global, tokens: &mut Tokens, sort: Sort) -> Result<Named, ParseFault>
     ensures { Reads (λ name. name) (spec.name sort) result tokens.old tokens.new }
 {
     let at = tokens.at;
-    match tokens.rest {
-        [first, rest @ ..] => {
-            if is_name(sort, &first.kind) {
-                let text = Text::of(alloc, text_of(&first.kind))?;
-                tokens.rest = rest;
-                tokens.at = at + 1;
+    match tokens.next() {
+        Some(kind) => {
+            if is_name(sort, kind) {
+                let text = Text::of(alloc, text_of(kind))?;
+                tokens.pass();
                 Ok(Named {
                     text,
                     at: at as u32,
@@ -94,12 +93,12 @@ pub fn name(alloc: Global, tokens: &mut Tokens<'_>, sort: Sort) -> Result<Named,
                 Err(ParseFault::Syntax(at))
             }
         }
-        [] => Err(ParseFault::Syntax(at)),
+        None => Err(ParseFault::Syntax(at)),
     }
 }
 
 /// Reads tokens of that sort, as many as there are.
-pub fn names(alloc: Global, tokens: &mut Tokens<'_>, sort: Sort) -> Result<Vec<Named>, ParseFault>
+pub fn names(alloc: Global, tokens: &mut Tokens, sort: Sort) -> Result<Vec<Named>, ParseFault>
     ensures { Reads (λ names. names.items) (spec.names sort) result tokens.old tokens.new }
 {
     let mut names = Vec::new(alloc);

@@ -50,7 +50,7 @@ fn keyword(alloc: Global, pairs: Vec<(Named, Named)>) -> Result<Pattern, NoMemor
 }
 
 /// Reads a key and its parameter.
-fn key_param(alloc: Global, tokens: &mut Tokens<'_>) -> Result<(Named, Named), ParseFault>
+fn key_param(alloc: Global, tokens: &mut Tokens) -> Result<(Named, Named), ParseFault>
     ensures { Reads (λ pair. pair) spec.key_param result tokens.old tokens.new }
 {
     let part = name(alloc, tokens, Sort::Key)?;
@@ -59,7 +59,7 @@ fn key_param(alloc: Global, tokens: &mut Tokens<'_>) -> Result<(Named, Named), P
 }
 
 /// Reads keys with their parameters, as many as there are.
-fn key_params(alloc: Global, tokens: &mut Tokens<'_>) -> Result<Vec<(Named, Named)>, ParseFault>
+fn key_params(alloc: Global, tokens: &mut Tokens) -> Result<Vec<(Named, Named)>, ParseFault>
     ensures { Reads (λ pairs. pairs.items) spec.key_params result tokens.old tokens.new }
 {
     let mut pairs = Vec::new(alloc);
@@ -72,7 +72,7 @@ fn key_params(alloc: Global, tokens: &mut Tokens<'_>) -> Result<Vec<(Named, Name
 
 /// Reads the pattern of a method.
 #[tactic(auto, unfolding(crate::specs::Pattern::pattern))]
-pub fn pattern(alloc: Global, tokens: &mut Tokens<'_>) -> Result<Pattern, ParseFault>
+pub fn pattern(alloc: Global, tokens: &mut Tokens) -> Result<Pattern, ParseFault>
     ensures { Reads pattern_of spec.pattern result tokens.old tokens.new }
 {
     if sees_name(tokens, Sort::Ident) {
@@ -95,7 +95,7 @@ pub fn pattern(alloc: Global, tokens: &mut Tokens<'_>) -> Result<Pattern, ParseF
 
 /// Reads the pattern of a factory, if there is one.
 #[tactic(auto, unfolding(crate::specs::Pattern::factory))]
-pub fn factory(alloc: Global, tokens: &mut Tokens<'_>) -> Result<Option<Pattern>, ParseFault>
+pub fn factory(alloc: Global, tokens: &mut Tokens) -> Result<Option<Pattern>, ParseFault>
     ensures { Reads (option_map pattern_of) spec.factory result tokens.old tokens.new }
 {
     if sees_name(tokens, Sort::Ident) {
@@ -113,7 +113,7 @@ pub fn factory(alloc: Global, tokens: &mut Tokens<'_>) -> Result<Option<Pattern>
 
 /// Reads a base.
 #[tactic(auto, unfolding(crate::specs::Pattern::base))]
-pub fn base(alloc: Global, tokens: &mut Tokens<'_>) -> Result<Base, ParseFault>
+pub fn base(alloc: Global, tokens: &mut Tokens) -> Result<Base, ParseFault>
     ensures { Reads (λ base. base) spec.base result tokens.old tokens.new }
 {
     if sees(tokens, Mark::SuperWord) {
@@ -141,7 +141,7 @@ pub fn base(alloc: Global, tokens: &mut Tokens<'_>) -> Result<Base, ParseFault>
 }
 
 /// Reads a colon and a name.
-fn param(alloc: Global, tokens: &mut Tokens<'_>) -> Result<Named, ParseFault>
+fn param(alloc: Global, tokens: &mut Tokens) -> Result<Named, ParseFault>
     ensures { Reads (λ name. name) spec.param result tokens.old tokens.new }
 {
     skip(tokens, Mark::Colon)?;
@@ -149,7 +149,7 @@ fn param(alloc: Global, tokens: &mut Tokens<'_>) -> Result<Named, ParseFault>
 }
 
 /// Reads colons with names, as many as there are.
-fn colon_params(alloc: Global, tokens: &mut Tokens<'_>) -> Result<Vec<Named>, ParseFault>
+fn colon_params(alloc: Global, tokens: &mut Tokens) -> Result<Vec<Named>, ParseFault>
     ensures { Reads (λ names. names.items) spec.colon_params result tokens.old tokens.new }
 {
     let mut names = Vec::new(alloc);
@@ -162,7 +162,7 @@ fn colon_params(alloc: Global, tokens: &mut Tokens<'_>) -> Result<Vec<Named>, Pa
 
 /// Reads the parameters of a block and the bar behind them, if there are any.
 #[tactic(auto, unfolding(crate::specs::Pattern::params))]
-pub fn params(alloc: Global, tokens: &mut Tokens<'_>) -> Result<Vec<Named>, ParseFault>
+pub fn params(alloc: Global, tokens: &mut Tokens) -> Result<Vec<Named>, ParseFault>
     ensures { Reads (λ names. names.items) spec.params result tokens.old tokens.new }
 {
     if sees(tokens, Mark::Colon) {
@@ -175,15 +175,15 @@ pub fn params(alloc: Global, tokens: &mut Tokens<'_>) -> Result<Vec<Named>, Pars
 }
 
 /// Whether a base is next.
-pub fn sees_base(tokens: &Tokens<'_>) -> bool
+pub fn sees_base(tokens: &Tokens) -> bool
     ensures { result ≡ next_is spec.starts_base tokens.now }
 {
-    match tokens.rest {
-        [first, ..] => match &first.kind {
+    match tokens.next() {
+        Some(kind) => match kind {
             Kind::Ident(_) => true,
             Kind::Word(word) => matches!(word, Reserved::Super | Reserved::Outer),
             _ => false,
         },
-        [] => false,
+        None => false,
     }
 }

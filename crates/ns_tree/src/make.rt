@@ -1,7 +1,7 @@
 //! A maker for each node of a tree that holds a vector, a box or an option of nodes, and for the nodes
 //! around them. Each says the node's plain form, so that who makes a tree sees plain forms alone.
 
-ghost use Rattle.std.specs.Prelude.{◌≡◌, IfOk, option_map};
+ghost use Rattle.std.specs.Prelude.{◌≡◌, [], IfOk, option_map};
 ghost use Rattle.ns_tree.specs.Plain as p;
 ghost use Rattle.ns_tree.specs.PlainOf.{expr_of, message_of, key_expr_of, bin_of, un_of, primary_of, block_of, slot_of, init_of, statements_of, statement_of};
 ghost use Rattle.ns_tree.specs.PlainOf.{cascade_of, keys_of, opers_of, exprs_of, bars_of, statement_list_of, members_of, class_side_of};
@@ -14,6 +14,9 @@ use crate::tree::{
 use ns_base::no_memory::NoMemory;
 use ns_base::text::Text;
 use std::alloc::Global;
+
+/// The most items of a list that is moved into memory of its own size.
+const SHORT_LIST: usize = 64;
 
 /// Sets, an expression, and the messages of its cascade.
 pub fn expr(sets: Vec<Named>, first: KeyExpr, more: Vec<(u32, Message)>) -> Expr
@@ -257,13 +260,33 @@ pub fn unit(marker: bool, category: Option<Text>, class: Class) -> Unit
 }
 
 /// The same list in memory of its own size. A list that grows takes room for four items at once, and most
-/// of a source's lists have one or none.
-fn fitted<T>(list: Vec<T>) -> Vec<T>
+/// of a source's lists have one or none. A short list moves, so that the room it had goes whole to the next
+/// list that grows: a part of it that is given back is too small for that, and lies idle.
+fn fitted<T: Drop>(list: Vec<T>) -> Vec<T>
     ensures { result.items ≡ list.items }
 {
     let mut list = list;
+    if list.len() < list.capacity() && list.len() <= SHORT_LIST {
+        match Vec::with_capacity(*list.allocator(), list.len()) {
+            Ok(room) => return moved(room, list),
+            Err(_) => {}
+        }
+    }
     list.shrink_to_fit();
     list
+}
+
+/// The same list in that room, if it is large enough.
+fn moved<T: Drop>(room: Vec<T>, list: Vec<T>) -> Vec<T>
+    requires { room.items ≡ [] }
+    ensures { result.items ≡ list.items }
+{
+    let mut room = room;
+    let mut list = list;
+    match room.append(&mut list) {
+        Ok(()) => room,
+        Err(_) => list,
+    }
 }
 
 /// The same slots in memory of their own size.
