@@ -114,6 +114,13 @@ impl Memo {
         }
     }
 
+    /// Whether a place keeps nothing.
+    fn is_free(&self, place: usize) -> bool
+        requires { place < 1536 }
+    {
+        self.places[place].is_none()
+    }
+
     /// Keeps something at a place.
     pub fn keep(&mut self, place: usize, kept: Kept)
         requires { place < 1536 }
@@ -123,7 +130,7 @@ impl Memo {
     }
 }
 
-/// What `find` answers, from the place of this lookup where it is kept there; else it is made and
+/// What `find` answers, from the place of this lookup where it is kept there or beside it; else it is made and
 /// kept. Takes no memory.
 #[inline(always)]
 pub fn find_kept(
@@ -143,20 +150,86 @@ pub fn find_kept(
     let place = place_of(start, sel, kind);
     match memo.kept(place, start, sel, kind) {
         Some(found) => found,
+        None => find_beside(world, code, memo, start, sel, kind, place),
+    }
+}
+
+/// The same of a lookup that isn't kept at its place, where another may be: it is kept beside it then. So two lookups that are
+/// made by turns, and have one place, don't drive each other out.
+#[inline(never)]
+fn find_beside(
+    world: &World,
+    code: &CodeProgram,
+    memo: &mut Memo,
+    start: Start,
+    sel: Sel,
+    kind: Sending,
+    place: usize,
+) -> Found
+    requires place { place < 1024 }
+    requires lawful { IsLawful world.now.world code.now }
+    requires start { IsTrue (is_start world.now.world.cells start) }
+    requires kept { All (PlaceIsRight world.now.world.cells code.now) memo.old }
+    ensures found { result ≡ found_from world.now.world.cells code.now start sel.0 kind }
+    ensures keeps { All (PlaceIsRight world.now.world.cells code.now) memo.new }
+{
+    match memo.kept(beside(place), start, sel, kind) {
+        Some(found) => found,
         None => {
-            let found = find(world, code, start, sel, kind);
-            memo.keep(
-                place,
-                Kept::Looked(Lookup {
-                    start,
-                    sel,
-                    kind,
-                    found,
-                }),
-            );
-            found
+            let free = free_place(memo, place);
+            find_anew(world, code, memo, start, sel, kind, free)
         }
     }
+}
+
+/// The same of a lookup that isn't kept: it is made, and kept at that place.
+fn find_anew(
+    world: &World,
+    code: &CodeProgram,
+    memo: &mut Memo,
+    start: Start,
+    sel: Sel,
+    kind: Sending,
+    place: usize,
+) -> Found
+    requires place { place < 1024 }
+    requires lawful { IsLawful world.now.world code.now }
+    requires start { IsTrue (is_start world.now.world.cells start) }
+    requires kept { All (PlaceIsRight world.now.world.cells code.now) memo.old }
+    ensures found { result ≡ found_from world.now.world.cells code.now start sel.0 kind }
+    ensures keeps { All (PlaceIsRight world.now.world.cells code.now) memo.new }
+{
+    let found = find(world, code, start, sel, kind);
+    memo.keep(
+        place,
+        Kept::Looked(Lookup {
+            start,
+            sel,
+            kind,
+            found,
+        }),
+    );
+    found
+}
+
+/// Where a lookup of that place is to be kept: there, or beside it where another is kept there.
+fn free_place(memo: &Memo, place: usize) -> usize
+    requires { place < 1024 }
+    ensures { result < 1024 }
+{
+    if memo.is_free(place) {
+        return place;
+    }
+    beside(place)
+}
+
+/// The place beside one: each two are beside each other.
+#[inline(always)]
+fn beside(place: usize) -> usize
+    requires { place < 1024 }
+    ensures { result < 1024 }
+{
+    if place % 2 == 0 { place + 1 } else { place - 1 }
 }
 
 /// The answer of a lookup that is kept, if it is this lookup.

@@ -1,6 +1,7 @@
 pub mod Stepped
 pub mod Received
 pub mod Given
+pub mod Below
 pub mod Opened
 pub mod Slotted
 pub mod Valued

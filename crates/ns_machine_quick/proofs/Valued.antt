@@ -1,21 +1,22 @@
 -- Values that rows of the kernel give at once.
-use Rattle.std.proofs.Common.{◌≡◌, ℕ, ap, sym, ◌∙◌, refl, subst, arith, List, [], ◌∷◌, All, Ok, Result}
+use Rattle.std.proofs.Common.{◌≡◌, ℕ, ap, sym, ◌∙◌, refl, subst, arith, List, [], ◌∷◌, All, Ok, Result, Bool, not}
 use Rattle.ns_code.specs.declared.program.CodeProgram.{CodeProgram}
 use Rattle.ns_world.specs.declared.ending.Fault.{Fault}
 use Rattle.ns_world.specs.declared.value.Value.{Value}
 use Rattle.ns_world.specs.declared.value.Value.TheVariants as value
+use Rattle.ns_world.specs.Booleans.{truth}
 use Rattle.ns_world.specs.Heap.{Heap}
 use Rattle.ns_world.specs.Lawful.{IsLive, IsLiveValue}
 use Rattle.ns_find.specs.declared.found.Found.{Found}
 use Rattle.ns_find.specs.declared.found.Sending.{Sending}
 use Rattle.ns_world.specs.declared.kernel_parts.DataRow.{DataRow}
-use Rattle.ns_world.specs.declared.kernel_parts.DataRow.TheVariants.{ArrayPut, DoesNotUnderstand}
+use Rattle.ns_world.specs.declared.kernel_parts.DataRow.TheVariants.{ArrayPut, DoesNotUnderstand, Equal, Identical, IsNil, NotNil}
 use Rattle.ns_kdata.specs.Arguments.{argument, number_of, CellIsThere}
 use Rattle.ns_kdata.specs.Datum.{datum, row_outcome}
 use Rattle.ns_kdata.specs.Giving.{GivesAtOnce}
 use Rattle.ns_kdata.specs.Outcome.{RowOutcome, Answers}
-use Rattle.ns_kdata.specs.Rows.{put_at_place}
-use Rattle.ns_world.specs.World.{stored}
+use Rattle.ns_kdata.specs.Rows.{is_nil, put_at_place, same_value}
+use Rattle.ns_world.specs.World.{World, stored}
 use Rattle.ns_world.specs.declared.kernel_parts.IntRow.{IntRow}
 use Rattle.ns_kint.specs.Integer.{integer}
 use Rattle.ns_world.specs.declared.kernel_row.Row.{Row}
@@ -78,6 +79,32 @@ data_gives code heap row receiver first value is arguments site progress same ce
     data_answers code row receiver value arguments site progress
     (subst (λ (a : Value). row_outcome progress.world code row receiver a (argument arguments 1) ≡ Answers value progress.world) (sym same)
     (is progress.world (argument arguments 1) cells))
+
+-- ---- rows that compare values alone
+
+pub nil_gives : (code : CodeProgram) (heap : Heap) (receiver first one : Value) (test : Bool) → one ≡ truth test → test ≡ is_nil receiver
+    → RowGives code heap (Data IsNil) receiver first one
+nil_gives code heap receiver first one test is told =
+    data_gives code heap IsNil receiver first one
+    (λ (world : World) (second : Value) same. ap (λ (v : Value). Answers v world) (sym (is ∙ ap truth told)))
+
+pub some_gives : (code : CodeProgram) (heap : Heap) (receiver first one : Value) (test : Bool) → one ≡ truth test → test ≡ not (is_nil receiver)
+    → RowGives code heap (Data NotNil) receiver first one
+some_gives code heap receiver first one test is told =
+    data_gives code heap NotNil receiver first one
+    (λ (world : World) (second : Value) same. ap (λ (v : Value). Answers v world) (sym (is ∙ ap truth told)))
+
+pub same_gives : (code : CodeProgram) (heap : Heap) (receiver first one : Value) (test : Bool) → one ≡ truth test → test ≡ same_value receiver first
+    → RowGives code heap (Data Identical) receiver first one
+same_gives code heap receiver first one test is told =
+    data_gives code heap Identical receiver first one
+    (λ (world : World) (second : Value) same. ap (λ (v : Value). Answers v world) (sym (is ∙ ap truth told)))
+
+pub equal_gives : (code : CodeProgram) (heap : Heap) (receiver first one : Value) (test : Bool) → one ≡ truth test → test ≡ same_value receiver first
+    → RowGives code heap (Data Equal) receiver first one
+equal_gives code heap receiver first one test is told =
+    data_gives code heap Equal receiver first one
+    (λ (world : World) (second : Value) same. ap (λ (v : Value). Answers v world) (sym (is ∙ ap truth told)))
 
 -- ---- the send
 

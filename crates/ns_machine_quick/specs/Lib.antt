@@ -1,4 +1,5 @@
 pub mod Given
+pub mod Below
 pub mod Integers
 pub mod Booleans
 pub mod Looping

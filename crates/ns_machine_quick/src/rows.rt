@@ -1,10 +1,11 @@
 //! Sends that find a row of the kernel which gives a value at once, by the quick way: registers alone come back. The body that runs
 //! stays on top, and one step is charged.
 
-ghost use Rattle.std.specs.Prelude.{◌<◌, length, IfSome};
+ghost use Rattle.std.specs.Prelude.{◌≡◌, ◌<◌, length, IfSome};
 ghost use Rattle.ns_world.specs.Heap.{Heap};
 ghost use Rattle.ns_world.specs.declared.kernel_parts.DataRow.TheVariants.{ArrayPut};
 ghost use Rattle.ns_kdata.specs.Arguments.{argument as argument_at, CellIsThere, items_of};
+ghost use Rattle.ns_kdata.specs.Rows.{is_nil, same_value};
 ghost use Rattle.ns_moves.specs.Control.{Activation};
 ghost use Rattle.ns_world.specs.declared.kernel_row.Row.TheVariants.{Data, Integer};
 ghost use Rattle.ns_moves.specs.Sends.{To};
@@ -31,8 +32,75 @@ use ns_world::kernel_parts::{DataRow, IntRow};
 use ns_world::kernel_row::Row;
 use ns_world::kernel_table::row_of;
 use ns_world::lawful::charging_keeps_lawful;
-use ns_world::value::Value;
+use ns_world::value::{Value, truth};
 use ns_world::world::World;
+
+/// Sends to a value that finds a row of the kernel, where that compares values alone and a step is left; else nothing has changed.
+#[inline(always)]
+pub fn send_comparison(
+    code: &CodeProgram,
+    core: &mut Core,
+    at: Registers,
+    sent: Sent,
+    receiver: Value,
+    kind: Sending,
+    number: u32,
+) -> Option<Registers>
+    requires can { CanSend code.now core.old at sent receiver }
+    requires finds { FindsKernel code.now core.old sent receiver kind number }
+    ensures { SendsOrNothing code.now core.old at sent receiver kind core.new result }
+{
+    let row = row_of(number);
+    let first = argument(core.stack.from(at, sent.first), 0);
+    match value_of_comparison(code, row, receiver, first) {
+        Some(value) => match charge(code, core, at, sent, receiver, kind, row, value) {
+            Some(to) => Some(to),
+            None => None,
+        },
+        None => None,
+    }
+}
+
+/// The value of a row that compares its receiver with nil, or with another reference.
+#[inline(always)]
+#[tactic(auto, using(crate::proofs::Valued::nil_gives, crate::proofs::Valued::some_gives, crate::proofs::Valued::same_gives, crate::proofs::Valued::equal_gives))]
+fn value_of_comparison(code: &CodeProgram, row: Row, receiver: Value, first: Value) -> Option<Value>
+    ensures { (heap : Heap) → IfSome result (λ value. RowGives code.now heap row receiver first value) }
+{
+    let _code = code;
+    match row {
+        Row::Data(DataRow::IsNil) => Some(truth(is_nil(receiver))),
+        Row::Data(DataRow::NotNil) => Some(truth(!is_nil(receiver))),
+        Row::Data(DataRow::Identical) => match same_reference(receiver, first) {
+            Some(same) => Some(truth(same)),
+            None => None,
+        },
+        Row::Data(DataRow::Equal) => match same_reference(receiver, first) {
+            Some(same) => Some(truth(same)),
+            None => None,
+        },
+        _ => None,
+    }
+}
+
+/// Whether a value is nil.
+#[inline(always)]
+fn is_nil(value: Value) -> bool
+    ensures { result ≡ is_nil value }
+{
+    matches!(value, Value::Nil)
+}
+
+/// Whether two references are the same, where both values are such.
+#[inline(always)]
+fn same_reference(one: Value, other: Value) -> Option<bool>
+    ensures { IfSome result (λ same. same ≡ same_value one other) }
+{
+    match (one, other) {
+        (Value::Ref(one), Value::Ref(other)) => Some(one == other),
+        _ => None,
+    }
+}
 
 /// Sends to a value that finds a row of the kernel, where that gives a value at once and a step is left.
 #[inline(always)]

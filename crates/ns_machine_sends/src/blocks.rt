@@ -3,6 +3,7 @@
 ghost use Rattle.std.specs.Prelude.{◌≡◌, ◌<◌, length, IsSome};
 ghost use Rattle.ns_facets.specs.declared.row.Grants.{Grants};
 ghost use Rattle.ns_world.specs.declared.value.Value.TheVariants.{Ref};
+ghost use Rattle.ns_world.specs.Blocks.{around};
 ghost use Rattle.ns_world.specs.Heap.{find_cell, shape_at};
 ghost use Rattle.ns_machine_sends.specs.Going.{arguments_in, IsLeft};
 ghost use Rattle.ns_machine_sends.specs.Blocks.{EntersOrNot, IsBlockAt, MovesOrNot, block_of};
@@ -20,7 +21,7 @@ use ns_moves::laws::{
     actions_spend_exactly, sends_keep_lawful, sites_stay, what_is_handed_on_fits,
 };
 use ns_moves::running::Running;
-use ns_world::cell::NewCell;
+use ns_world::value::Value;
 use ns_world::world::World;
 
 /// Enters a block for whose answer a place is there, where it takes so many arguments, a step is left and the limits leave room for its
@@ -44,27 +45,32 @@ pub fn enter_at_once(
     }
 }
 
-/// What the block of that cell runs in, None where it is none.
-#[inline]
+/// What the block of that cell runs in, where its self is a cell and around it is an environment or none, as with most.
+#[inline(always)]
 fn block_at(world: &World, cell: u32) -> Option<Running>
     requires { IsSome (find_cell world.now.world.cells cell) }
     ensures { IsBlockAt (shape_at world.now.world.cells cell) result }
 {
-    match world.cell(cell) {
-        NewCell::Block {
-            body,
-            env,
-            home,
-            receiver,
-            holder,
-        } => Some(Running {
-            me: receiver,
-            holder,
-            body,
-            home,
-            env,
+    match world.block(cell) {
+        Some(parts) => Some(Running {
+            me: Value::Ref(parts.receiver),
+            holder: parts.holder,
+            body: parts.body,
+            home: parts.home,
+            env: around(parts.env),
         }),
-        _ => None,
+        None => None,
+    }
+}
+
+/// The environment of that number, nil where there is none.
+#[inline(always)]
+fn around(env: Option<u32>) -> Value
+    ensures { result ≡ around env }
+{
+    match env {
+        Some(at) => Value::Ref(at),
+        None => Value::Nil,
     }
 }
 

@@ -129,8 +129,19 @@ fn environment_for(world: &mut World, shape: BodyShape, around: Value, arguments
         return around;
     }
     let own_locals = shape.locals.saturating_sub(shape.params);
-    match world.make_environment(around, arguments, own_locals) {
+    match world.make_environment(anew(around), arguments, own_locals) {
         Ok(own) => Value::Ref(own),
         Err(_) => unreachable!(),
+    }
+}
+
+/// The same value, written to memory where a call asks for it there: so it needn't stand there on a way that makes no such call.
+#[inline(always)]
+fn anew(value: Value) -> Value
+    ensures { result ≡ value }
+{
+    match value {
+        Value::Ref(at) => Value::Ref(at),
+        other => other,
     }
 }

@@ -1,5 +1,5 @@
 -- The method of the kernel whose frame is topmost.
-use Rattle.std.proofs.Common.{◌≡◌, ◌<◌, ℕ, List, [], ◌∷◌, length, refl, subst, sym}
+use Rattle.std.proofs.Common.{◌≡◌, ◌<◌, ℕ, List, [], ◌∷◌, length, refl, ap, subst, sym}
 use Rattle.ns_code.specs.declared.program.CodeProgram.{CodeProgram}
 use Rattle.ns_world.specs.declared.kernel_parts.KMethod.{KMethod}
 use Rattle.ns_world.specs.declared.value.Value.{Value}
@@ -7,6 +7,7 @@ use Rattle.ns_world.specs.declared.value.Value.TheVariants.{Ref}
 use Rattle.ns_machine_frames.specs.declared.frame.Frame.{Frame}
 use Rattle.ns_machine_frames.specs.declared.frame.Frame.TheVariants.{Running, Looping}
 use Rattle.ns_machine_frames.specs.declared.frame.LoopingFrame.{LoopingFrame}
+use Rattle.ns_machine_frames.specs.declared.frame.Pending.TheVariants.{Evaluating}
 use Rattle.ns_machine_frames.specs.declared.registers.Registers.{Registers}
 use Rattle.ns_machine_plan.specs.declared.plan.Plan.{Plan}
 use Rattle.ns_machine_core.specs.declared.own.OwnSends.{OwnSends}
@@ -67,6 +68,12 @@ module _ (code : CodeProgram) (core : Core) (at : Registers) (looping frame : Lo
   pub frame_moves : (new : Core) (next : Next) → MakesMove code (with_block (sent_by frame) (Ref cell) core) (Waits at) new next
       → MakesMove code (awaiting looping (Ref cell) core) (Waits at) new next
   frame_moves new next is = subst (λ (s : Sent). MakesMove code (with_block s (Ref cell) core) (Waits at) new next) (sym same) is
+
+-- What waits for it waits for that one.
+pub topmost_awaits : (looping frame : LoopingFrame) (frames others : List Frame) (block : Value) (core : Core) → frames ≡ Looping frame ∷ others
+    → IsTopmost looping frames → awaiting looping block core ≡ awaiting frame block core
+topmost_awaits looping frame frames others block core top is =
+    ap (λ (s : Sent). record core { waiting = Evaluating block s.site s.floor s.first }) (topmost_sends looping frame frames others top is)
 
 -- It waits for a block where the run has gone on to there.
 pub block_stands : (code : CodeProgram) (plan : Plan) (sends : OwnSends) (left : ℕ) (old : Core) (from : Next) (core : Core)

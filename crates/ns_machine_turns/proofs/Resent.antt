@@ -13,7 +13,7 @@ use Rattle.ns_world.specs.Lawful.{IsLiveValue}
 use Rattle.ns_base.specs.declared.selector.Sel.{Sel}
 use Rattle.ns_kdata.specs.Arguments.{CellIsThere, items_of, is_array, is_array_shape}
 use Rattle.ns_moves.specs.Control.{Control, gives}
-use Rattle.ns_moves.specs.Lawful.{LawfulControl, FitsSelector}
+use Rattle.ns_moves.specs.Lawful.{LawfulControl}
 use Rattle.ns_moves.specs.Sends.{sent_from}
 use Rattle.ns_moves.specs.Stated.{WaitedIsLawful}
 use Rattle.ns_moves.specs.State as state

@@ -1,5 +1,5 @@
 -- The method of the kernel that is topmost.
-use Rattle.std.specs.Prelude.{◌≡◌, ◌<◌, ℕ, List, [], ◌∷◌, length}
+use Rattle.std.specs.Prelude.{◌≡◌, ◌-◌, ◌<◌, ℕ, List, [], ◌∷◌, length}
 use Rattle.ns_code.specs.declared.program.CodeProgram.{CodeProgram}
 use Rattle.ns_facets.specs.declared.row.Grants.{Grants}
 use Rattle.ns_world.specs.declared.kernel_parts.KMethod.{KMethod}
@@ -8,10 +8,16 @@ use Rattle.ns_machine_frames.specs.declared.frame.Frame.{Frame}
 use Rattle.ns_machine_frames.specs.declared.frame.Frame.TheVariants.{Running, Looping}
 use Rattle.ns_machine_frames.specs.declared.frame.LoopingFrame.{LoopingFrame}
 use Rattle.ns_machine_frames.specs.declared.registers.Registers.{Registers}
+use Rattle.ns_machine_plan.specs.declared.plan.Plan.{Plan}
+use Rattle.ns_machine_core.specs.declared.own.OwnSends.{OwnSends}
 use Rattle.ns_machine_core.specs.declared.state.Core.{Core}
+use Rattle.ns_machine_core.specs.declared.state.Next.TheVariants.{On, Waits}
 use Rattle.ns_machine_returns.specs.Acting.{IsTopmost, awaiting}
 use Rattle.ns_machine_sends.specs.declared.sent.Sent.{Sent}
 use Rattle.ns_machine_sends.specs.Waiting.{BlockWaits}
+use Rattle.ns_machine_turns.specs.declared.acting.Acted.{Acted}
+use Rattle.ns_machine_turns.specs.declared.acting.Acted.TheVariants.{Evaluates, Goes}
+use Rattle.ns_machine_turns.specs.Turning.{GoesAlong, HasGone}
 
 -- The topmost frame is one of that method of the kernel.
 abbrev pub LoopsBy : KMethod → List Frame → Type 0
@@ -29,3 +35,18 @@ pub record BlockStands (code : CodeProgram) (core : Core) (at : Registers) (loop
   pub top : IsTopmost looping core.stack.frames.items
   pub waits : BlockWaits code grants (awaiting looping (Ref cell) core) at (sent_by looping) (Ref cell)
   pub place : looping.floor < length core.stack.values.items
+
+-- The topmost method of the kernel has come to wait for the block of that cell, if that were written, and a step is left.
+pub record ComesToWait (code : CodeProgram) (plan : Plan) (sends : OwnSends) (left : ℕ) (old : Core) (from : Registers) (new : Core) (at : Registers)
+    (cell : ℕ) : Type 0 where
+  pub looping : LoopingFrame
+  pub along : GoesAlong code plan sends left old (On from) (awaiting looping (Ref cell) new) (Waits at)
+  pub few : new.run.world.world.steps - old.run.world.world.steps < left
+  pub top : IsTopmost looping new.stack.frames.items
+  pub place : looping.floor < length new.stack.values.items
+
+-- It has come to that by its next action, or moves have led on.
+abbrev pub HasActed : CodeProgram → Plan → OwnSends → ℕ → Core → Registers → Core → Acted → Type 0
+HasActed code plan sends left old from new (Evaluates next top base cell) =
+    ComesToWait code plan sends left old from new (record { next = next; top = top; base = base }) cell
+HasActed code plan sends left old from new (Goes next) = HasGone code plan sends left old (On from) new next

@@ -6,8 +6,8 @@ ghost use Rattle.ns_machine_frames.specs.Standing.{below};
 ghost use Rattle.ns_world.specs.declared.value.Value.TheVariants.{Ref};
 ghost use Rattle.ns_machine_core.specs.declared.state.Next.TheVariants.{On, Waits};
 ghost use Rattle.ns_machine_core.specs.Ready.{MakesMove};
-ghost use Rattle.ns_machine_returns.specs.Acting.{IsLooping, awaiting};
-ghost use Rattle.ns_machine_turns.specs.Looping.{BlockStands, LoopsBy};
+ghost use Rattle.ns_machine_returns.specs.Acting.{IsLooping, IsTopmost, awaiting};
+ghost use Rattle.ns_machine_turns.specs.Looping.{BlockStands, HasActed, LoopsBy};
 ghost use Rattle.ns_machine_turns.specs.Turning.{RunsBy, HasGone};
 
 use crate::laws::moves_go_along;
@@ -27,12 +27,23 @@ use ns_moves::methods::Waited;
 use ns_world::kernel_parts::KMethod;
 use ns_world::value::Value;
 
+/// What the next action of a method of the kernel has come to: it waits for the block of that cell, with the registers one by one,
+/// and a step is left; or moves have led there.
+#[derive(Clone, Copy)]
+pub enum Acted {
+    Evaluates {
+        next: u32,
+        top: u32,
+        base: u32,
+        cell: u32,
+    },
+    Goes(Next),
+}
+
 /// Does the next action of the method of the kernel that is topmost, and evaluates its block at once where a step is left: the
-/// evaluation waits in between, but isn't written. It stands in code of its own, in which all that it calls is united, once for
-/// each method: what another method asks for isn't read then. The registers are handed over one by one, so that they needn't
-/// stand in memory before any step.
+/// evaluation waits in between, but isn't written. It stands in code of its own, in which all that it calls is united. The
+/// registers are handed over one by one, so that they needn't stand in memory before any step.
 #[inline(never)]
-#[tactic(auto, using(crate::proofs::Looped::loops_by))]
 pub fn act_along(
     plan: &Plan,
     code: &CodeProgram,
@@ -48,7 +59,35 @@ pub fn act_along(
     requires some { 1 ≤ left }
     ensures { HasGone code.now plan.now own left core.old (On (record { next = next; top = top; base = base })) core.new result }
 {
-    let at = Registers { next, top, base };
+    moves_go_along();
+    let here = Registers { next, top, base };
+    match act(plan, code, core, here, left, own) {
+        Acted::Evaluates {
+            next,
+            top,
+            base,
+            cell,
+        } => evaluate(code, core, Registers { next, top, base }, cell),
+        Acted::Goes(to) => to,
+    }
+}
+
+/// Does the next action, in code for each method: what another method asks for isn't read then.
+#[inline(always)]
+#[tactic(auto, using(crate::proofs::Looped::loops_by))]
+fn act(
+    plan: &Plan,
+    code: &CodeProgram,
+    core: &mut Core,
+    at: Registers,
+    left: u64,
+    own: OwnSends,
+) -> Acted
+    requires runs { RunsBy code.now plan.now own core.old (On at) }
+    requires loops { IsLooping core.old.stack.frames.items }
+    requires some { 1 ≤ left }
+    ensures { HasActed code.now plan.now own left core.old at core.new result }
+{
     match looping(&core.stack).method {
         KMethod::And => act_as(plan, code, core, at, left, own, KMethod::And),
         KMethod::Or => act_as(plan, code, core, at, left, own, KMethod::Or),
@@ -78,11 +117,11 @@ fn act_as(
     left: u64,
     own: OwnSends,
     method: KMethod,
-) -> Next
+) -> Acted
     requires runs { RunsBy code.now plan.now own core.old (On at) }
     requires loops { LoopsBy method core.old.stack.frames.items }
     requires some { 1 ≤ left }
-    ensures { HasGone code.now plan.now own left core.old (On at) core.new result }
+    ensures { HasActed code.now plan.now own left core.old at core.new result }
 {
     moves_go_along();
     topmost_methods_can_act();
@@ -96,37 +135,70 @@ fn act_as(
             state,
         } => {
             let above = prepare(code, core, at, frame, block, argument, state);
-            if left <= core.run.world.counters().steps - begun {
-                return let_wait(core, above, frame, block);
-            }
             match block {
                 Value::Ref(cell) => {
-                    evaluate_apart(code, core, above.next, above.top, above.base, cell)
+                    if left <= core.run.world.counters().steps - begun {
+                        return Acted::Goes(let_wait(
+                            core,
+                            above.next,
+                            above.top,
+                            above.base,
+                            Value::Ref(cell),
+                        ));
+                    }
+                    Acted::Evaluates {
+                        next: above.next,
+                        top: above.top,
+                        base: above.base,
+                        cell,
+                    }
                 }
-                _ => let_wait(core, above, frame, block),
+                other => Acted::Goes(let_wait(core, above.next, above.top, above.base, other)),
             }
         }
-        Waited::Ends(answer) => end_method(code, core, at, own, frame, answer),
+        Waited::Ends(answer) => Acted::Goes(end_method(code, core, at, own, frame, answer)),
     }
 }
 
-/// Lets the evaluation of a block wait, on the values from the floor of that method of the kernel on.
-#[inline(always)]
-fn let_wait(core: &mut Core, at: Registers, frame: LoopingFrame, block: Value) -> Next
-    ensures waits { core.new ≡ awaiting frame block core.old }
-    ensures at { result ≡ Waits at }
+/// Lets the evaluation of a block wait, on the values from the floor of the topmost method of the kernel on. That is rare, so the
+/// frame is read again here, and where nothing waits its site isn't; nor does anything stand in memory for this.
+#[inline(never)]
+fn let_wait(core: &mut Core, next: u32, top: u32, base: u32, block: Value) -> Next
+    requires { IsLooping core.old.stack.frames.items }
+    ensures waits { (looping : LoopingFrame) → IsTopmost looping core.old.stack.frames.items → core.new ≡ awaiting looping block core.old }
+    ensures at { result ≡ Waits (record { next = next; top = top; base = base }) }
 {
+    let frame = looping(&core.stack);
     core.waiting = Pending::Evaluating {
         block,
         site: frame.site,
         floor: frame.floor,
         first: frame.floor,
     };
-    Next::Waits(at)
+    Next::Waits(Registers { next, top, base })
 }
 
-/// Evaluates the block of that cell, for which the topmost method of the kernel waits, at once: nothing that waits is written. It
-/// stands in code of its own for all such methods, and the site is read from the topmost frame.
+/// Evaluates the block of that cell, for which the topmost method of the kernel waits, at once: nothing that waits is written. The
+/// site is read from the topmost frame, in one place for all such methods.
+#[inline(always)]
+fn evaluate(code: &CodeProgram, core: &mut Core, at: Registers, cell: u32) -> Next
+    requires { (looping : LoopingFrame) × BlockStands code.now core.old at looping cell }
+    ensures { (looping : LoopingFrame) → BlockStands code.now core.old at looping cell
+        → MakesMove code.now (awaiting looping (Ref cell) core.old) (Waits at) core.new result }
+{
+    let frame = looping(&core.stack);
+    let sent = Sent {
+        site: frame.site,
+        floor: frame.floor,
+        first: frame.floor,
+    };
+    match enter_at_once(code, core, at, sent, cell) {
+        Some(to) => Next::On(to),
+        None => evaluate_apart(code, core, at.next, at.top, at.base, cell),
+    }
+}
+
+/// The same in code of its own, where the block isn't entered at once: what this asks for isn't kept for it before.
 #[inline(never)]
 fn evaluate_apart(
     code: &CodeProgram,
@@ -147,10 +219,7 @@ fn evaluate_apart(
         floor: frame.floor,
         first: frame.floor,
     };
-    match enter_at_once(code, core, at, sent, cell) {
-        Some(to) => Next::On(to),
-        None => evaluate_at_once(code, core, at, sent, Value::Ref(cell)),
-    }
+    evaluate_at_once(code, core, at, sent, Value::Ref(cell))
 }
 
 /// The frame of that method of the kernel, which is topmost.

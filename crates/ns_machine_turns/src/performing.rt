@@ -115,7 +115,7 @@ fn send_to_integer(
         code, core, at, send.sel, send.argc, send.kind, send.place, row,
     ) {
         Some(to) => Led::Charged(to),
-        None => send_found(code, core, at, send),
+        None => send_otherwise(code, core, at, send),
     }
 }
 
@@ -140,7 +140,7 @@ fn send_to_boolean(
         Led::Charged(to) => Led::Charged(to),
         Led::On(to) => Led::On(to),
         Led::Answered(to) => Led::Answered(to),
-        Led::Nowhere => send_found(code, core, at, send),
+        Led::Nowhere => send_otherwise(code, core, at, send),
     }
 }
 
@@ -162,20 +162,30 @@ fn send_to_array(
         code, core, at, send.sel, send.argc, send.kind, send.place, row,
     ) {
         Some(to) => Led::Charged(to),
-        None => send_found(code, core, at, send),
+        None => send_otherwise(code, core, at, send),
     }
 }
 
 /// Sends to the operand below the arguments by what is found.
+#[inline(always)]
+fn send_found(code: &CodeProgram, core: &mut Core, at: Registers, found: &ValueSend) -> Led
+    requires { CanDo code.now core.old at (send_instr found.now.kind found.now.sel found.now.argc) }
+    ensures { LeadsOrChangesNothing code.now (send_instr found.now.kind found.now.sel found.now.argc)
+        (slice_get core.old.places found.now.place) core.old at core.new result }
+{
+    send(code, core, at, found)
+}
+
+/// The same where its row doesn't do it.
 // The answer is told again, case by case, so that it is built in the caller's registers: handed on as it is, it would
 // come back through memory, on the way of every send.
 #[inline(always)]
-fn send_found(code: &CodeProgram, core: &mut Core, at: Registers, send: &ValueSend) -> Led
-    requires { CanDo code.now core.old at (send_instr send.now.kind send.now.sel send.now.argc) }
-    ensures { LeadsOrChangesNothing code.now (send_instr send.now.kind send.now.sel send.now.argc)
-        (slice_get core.old.places send.now.place) core.old at core.new result }
+fn send_otherwise(code: &CodeProgram, core: &mut Core, at: Registers, found: &ValueSend) -> Led
+    requires { CanDo code.now core.old at (send_instr found.now.kind found.now.sel found.now.argc) }
+    ensures { LeadsOrChangesNothing code.now (send_instr found.now.kind found.now.sel found.now.argc)
+        (slice_get core.old.places found.now.place) core.old at core.new result }
 {
-    match send_apart(code, core, at.next, at.top, at.base, send) {
+    match send_apart(code, core, at.next, at.top, at.base, found) {
         Led::Straight(to) => Led::Straight(to),
         Led::Charged(to) => Led::Charged(to),
         Led::On(to) => Led::On(to),
@@ -199,16 +209,7 @@ fn send_apart(
     ensures { LeadsOrChangesNothing code.now (send_instr found.now.kind found.now.sel found.now.argc)
         (slice_get core.old.places found.now.place) core.old (record { next = next; top = top; base = base }) core.new result }
 {
-    let at = Registers { next, top, base };
-    send(
-        code,
-        core,
-        at,
-        found.sel,
-        found.argc,
-        found.kind,
-        found.place,
-    )
+    send(code, core, Registers { next, top, base }, found)
 }
 
 /// Sends to the private member that the step has.

@@ -1,6 +1,6 @@
 //! Turns: so many moves as so many steps allow.
 
-ghost use Rattle.std.specs.Prelude.{◌≡◌, ◌≤◌, false};
+ghost use Rattle.std.specs.Prelude.{◌≡◌, ◌-◌, ◌≤◌, false};
 ghost use Rattle.ns_code.specs.declared.program.CodeProgram.{CodeProgram};
 ghost use Rattle.ns_facets.specs.declared.row.Grants.{Grants};
 ghost use Rattle.ns_moves.specs.Turn.{is_still, Turns};
@@ -101,8 +101,9 @@ fn go_along(
     }
 }
 
-/// Moves with so many steps left, for as long as the topmost frame goes on. The registers stay in local variables: no other way
-/// on is carried from one move to the next.
+/// Moves with so many steps left, for as long as the topmost frame goes on: straight on in a body, as far as that goes, and one move
+/// more; or the next action of a method of the kernel. The registers stay in local variables: no other way on is carried from one
+/// frame to the next.
 #[inline(always)]
 fn run_along(
     plan: &Plan,
@@ -119,47 +120,52 @@ fn run_along(
     moves_go_along();
     let begun = core.run.world.counters().steps;
     let mut here = at;
+    let mut rest = left;
     'along: loop {
-        let used = core.run.world.counters().steps - begun;
-        let moved = advance(plan, code, core, here, left - used, own);
-        match moved {
-            Next::On(to) => {
-                if left <= core.run.world.counters().steps - begun {
-                    return moved;
+        match *core.stack.topmost() {
+            Frame::Running(frame) => match go_straight(
+                plan,
+                code,
+                core,
+                here,
+                frame.activation.body,
+                rest,
+                own,
+            ) {
+                Next::On(to) => {
+                    rest = steps_left(core, begun, left);
+                    if rest == 0 {
+                        return Next::On(to);
+                    }
+                    here = to;
                 }
-                here = to;
-            }
-            Next::Waits(_) | Next::Ended => return moved,
+                Next::Waits(to) => return Next::Waits(to),
+                Next::Ended => return Next::Ended,
+            },
+            Frame::Looping(_) => match act_along(
+                plan, code, core, here.next, here.top, here.base, rest, own,
+            ) {
+                Next::On(to) => {
+                    rest = steps_left(core, begun, left);
+                    if rest == 0 {
+                        return Next::On(to);
+                    }
+                    here = to;
+                }
+                Next::Waits(to) => return Next::Waits(to),
+                Next::Ended => return Next::Ended,
+            },
         }
     }
 }
 
-/// Goes on with the topmost frame: straight on in a body, as far as that goes, and one move more; or with a method of the kernel.
+/// How many of so many steps are left, since the world had counted that number of them.
 #[inline(always)]
-fn advance(
-    plan: &Plan,
-    code: &CodeProgram,
-    core: &mut Core,
-    at: Registers,
-    left: u64,
-    own: OwnSends,
-) -> Next
-    requires runs { RunsBy code.now plan.now own core.old (next.On at) }
-    requires some { 1 ≤ left }
-    ensures { HasGone code.now plan.now own left core.old (next.On at) core.new result }
+fn steps_left(core: &Core, begun: u64, left: u64) -> u64
+    requires { begun ≤ core.now.run.world.world.steps }
+    ensures { result ≡ left - (core.now.run.world.world.steps - begun) }
 {
-    match *core.stack.topmost() {
-        Frame::Running(frame) => go_straight(
-            plan,
-            code,
-            core,
-            at,
-            frame.activation.body,
-            left,
-            own,
-        ),
-        Frame::Looping(_) => as_value(go_apart(plan, code, core, at, left, own)),
-    }
+    left.saturating_sub(core.run.world.counters().steps - begun)
 }
 
 /// Goes straight on in the body that runs in the topmost frame, and makes one move more, by the quick way where that does it.

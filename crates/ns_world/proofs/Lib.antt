@@ -16,3 +16,4 @@ pub mod Next
 pub mod Bounding
 pub mod Lasting
 pub mod Whole
+pub mod ReadBlocks

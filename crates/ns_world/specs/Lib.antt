@@ -4,6 +4,7 @@ pub mod Booleans
 pub mod Cell
 pub mod Heap
 pub mod Words
+pub mod Blocks
 pub mod View
 pub mod Seek
 pub mod World

@@ -44,6 +44,17 @@ pub enum NewCell {
     },
 }
 
+/// What a block was made with whose self is a cell, and around which is an environment or none: its body, that environment, the
+/// home to which it returns, its self, and the holder.
+#[derive(Clone, Copy)]
+pub struct BlockParts {
+    pub body: u32,
+    pub env: Option<u32>,
+    pub home: u64,
+    pub receiver: u32,
+    pub holder: u32,
+}
+
 /// The objects that stand for what the program may use of the outside.
 #[derive(Clone, Copy, PartialEq, Eq)]
 pub enum FacetKind {

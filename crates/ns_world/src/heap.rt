@@ -3,17 +3,19 @@
 ghost use Rattle.std.specs.Prelude.{◌≡◌, ℕ, ◌+◌, ◌*◌, ◌^◌, ◌<◌, ◌≤◌, List, [], ◌∷◌, ◌++◌, length, true, false, ◌&&◌, is_none, Some, slice_get};
 ghost use Rattle.std.specs.Prelude.{slice_index, slice_set, IsTrue, IsSome, OnOk, OnErr, if◌then◌else◌};
 ghost use Rattle.std.specs.List.{slice_index_or};
+ghost use Rattle.ns_world.specs.declared.cell.NewCell.TheVariants as cell;
+ghost use Rattle.ns_world.specs.Blocks.{IsBlockOf};
 ghost use Rattle.ns_world.specs.Cell.{cell_size, fresh, filled_environment, ArrayCell, TextCell};
 ghost use Rattle.ns_world.specs.Heap.{heap_size, has_superclass, words_at, word_at, open_words_at, write_word, bytes_at, byte_at, row_at};
 ghost use Rattle.ns_world.specs.Heap.{write_byte, find_cell, shape_at, next_number, is_class, chain_of, superclass_of, is_chain_start};
 ghost use Rattle.ns_world.specs.Heap.{declared_class};
 ghost use Rattle.ns_world.specs.Head.{head_at};
 ghost use Rattle.ns_world.specs.Starts.{is_receiver_cell};
-ghost use Rattle.ns_world.specs.Words.{shape_in, head_in, words_behind};
+ghost use Rattle.ns_world.specs.Words.{shape_in, head_in, value_in, beside_in, words_behind};
 ghost use Rattle.ns_world.specs.Seek.{first_such, is_sought, is_nil, is_top, may_be_first};
 ghost use Rattle.ns_world.specs.declared.word.Word.TheVariants.{Bytes, Nil};
 
-use crate::cell::NewCell;
+use crate::cell::{BlockParts, NewCell};
 use crate::head::Head;
 use crate::kernel::NO_CLASS;
 use crate::lay::{lay, lay_bytes, lay_items, lay_locals, text_words};
@@ -244,6 +246,22 @@ impl Heap {
         )
     }
 
+    /// What the block of that number was made with, where its self is a cell and around it is an environment or none, as with most.
+    /// Its three words are read as they stand.
+    #[inline(always)]
+    pub fn block(&self, at: u32) -> Option<BlockParts>
+        requires { IsSome (find_cell self.now.cells at) }
+        ensures { IsBlockOf (shape_at self.now.cells at) result }
+    {
+        let at = at as usize;
+        match self.words[at] {
+            Word::Block { body, home } => {
+                block_in(body, home, self.words[at + 1], self.words[at + 2])
+            }
+            _ => None,
+        }
+    }
+
     /// The number of the superclass of a class, `NO_CLASS` where it is the kernel's.
     pub fn superclass(&self, class: u32) -> u32
         requires { IsTrue (is_class (find_cell self.now.cells class)) }
@@ -322,6 +340,33 @@ fn word_or_nil(words: &[Word], at: usize) -> Word
     match words.get(at) {
         Some(word) => *word,
         None => Word::Nil,
+    }
+}
+
+/// What the words behind the head of a block tell of it, where its self is a cell and around it is an environment or none.
+#[inline(always)]
+fn block_in(body: u32, home: u64, next: Word, second: Word) -> Option<BlockParts>
+    ensures { IsBlockOf (cell.Block body (value_in second) home (value_in next) (beside_in second)) result }
+{
+    match next {
+        Word::Ref(receiver) => match second {
+            Word::RefWith { beside, at } => Some(BlockParts {
+                body,
+                env: Some(at),
+                home,
+                receiver,
+                holder: beside,
+            }),
+            Word::NilWith { beside } => Some(BlockParts {
+                body,
+                env: None,
+                home,
+                receiver,
+                holder: beside,
+            }),
+            _ => None,
+        },
+        _ => None,
     }
 }
 

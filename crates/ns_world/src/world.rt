@@ -4,6 +4,7 @@ ghost use Rattle.std.specs.Prelude.{◌≡◌, ℕ, ◌+◌, ◌-◌, ◌*◌, �
 ghost use Rattle.ns_base.specs.Limits.{InRange};
 ghost use Rattle.ns_world.specs.declared.ending.LimitKind.TheVariants.{Steps, Depth, Out};
 ghost use Rattle.ns_world.specs.declared.value.Value.TheVariants as value_is;
+ghost use Rattle.ns_world.specs.Blocks.{IsBlockOf};
 ghost use Rattle.ns_world.specs.Cell.{fresh, filled_environment, ArrayCell, TextCell};
 ghost use Rattle.ns_world.specs.Heap.{has_superclass, words_at, word_at, word_of_object, open_words_at, bytes_at, byte_at, row_at, find_cell, shape_at, next_number, is_class, is_chain_start, chain_of, superclass_of};
 ghost use Rattle.ns_world.specs.Seek.{first_such, is_facet, is_top};
@@ -13,7 +14,7 @@ ghost use Rattle.ns_world.specs.declared.kernel.Start.TheVariants.{Instance};
 ghost use Rattle.ns_world.specs.Layout.{declaration_of, base_of};
 ghost use Rattle.ns_world.specs.World.{SameRoom, MakesCell, Charges, empty_world, counters_of, stepped, entered, left, printed, written, stored, byte_written};
 
-use crate::cell::{CellLimit, FacetKind, NewCell};
+use crate::cell::{BlockParts, CellLimit, FacetKind, NewCell};
 use crate::ending::{Counters, LimitKind};
 use crate::head::{
     Head, base_at_head, declared_at_head, is_class_head, kernel_class_row, start_at_head,
@@ -233,6 +234,15 @@ impl World {
         ensures { result ≡ shape_at self.now.world.cells at }
     {
         self.heap.cell(at)
+    }
+
+    /// What the block of that number was made with, where its self is a cell and around it is an environment or none, as with most.
+    #[inline(always)]
+    pub fn block(&self, at: u32) -> Option<BlockParts>
+        requires { IsSome (find_cell self.now.world.cells at) }
+        ensures { IsBlockOf (shape_at self.now.world.cells at) result }
+    {
+        self.heap.block(at)
     }
 
     /// The kind and the size of a live cell, which stand in its first word.

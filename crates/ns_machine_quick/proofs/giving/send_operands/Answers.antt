@@ -1,40 +1,24 @@
-use Rattle.std.proofs.Common.{◌+◌, ◌-◌, ℕ, ap, sym, subst, arith}
+use Rattle.std.proofs.Common.{◌-◌, ◌≡◌, ◌∙◌, ℕ, Fits, ap, arith, rules, subst, w8}
 use Rattle.ns_machine_frames.specs.declared.registers.Registers.{Registers}
-use Rattle.ns_machine_frames.specs.Stack.{stood}
-use Rattle.ns_machine_sends.specs.Operands.{SendsOperands}
-use Rattle.ns_machine_sends.specs.Sending.{CanSend}
-use Rattle.ns_machine_sends.specs.laws.Received.{receiver_live, can_send}
-use Rattle.ns_machine_quick.specs.Given.{SendLeads, ToTopLeads}
-use Rattle.ns_machine_quick.proofs.Received.{leads_to_top}
+use Rattle.ns_machine_frames.specs.Standing.{pushed}
+use Rattle.ns_machine_frames.specs.Stack.{stood, with_top}
+use Rattle.ns_machine_quick.proofs.Below.{below_to_top, can_send_below}
 use Rattle.ns_machine_quick.proofs.giving.send_operands.Goals as goal
 
-pub class_of-class-requires-clause-live : goal.class_of-class-requires-clause-live
-class_of-class-requires-clause-live c =
-    receiver_live c.args.code.now c.args.core.now c.args.at c.args.sel c.from.result
-    (subst (λ (n : ℕ). SendsOperands c.args.code.now c.args.core.now c.args.at c.args.sel n (n + 1)) (sym c.from.ensures) c.requires)
-    c.pop-receiver.result.0 (stood c.args.core.now.stack c.pop-receiver.result.1) c.pop-receiver.ensures.stood
-
-pub send_to-requires : goal.send_to-requires
-send_to-requires c =
-    let few = c.ranges.argc.fits in
-    let same = c.from.ensures in
-    subst (λ (floor : ℕ). CanSend c.args.code.now c.args.core.now c.args.at
-    (record { site = record { place = c.args.place; class = c.class_of-class.result; sel = c.args.sel }; floor = floor; first = c.args.at.top - c.from.result })
-    c.pop-receiver.result.0)
-    (sym (ap (λ (r : Registers). r.top) c.pop-receiver.ensures.at))
-    (can_send c.args.code.now c.args.core.now c.args.at c.args.sel c.from.result
-    (subst (λ (n : ℕ). SendsOperands c.args.code.now c.args.core.now c.args.at c.args.sel n (n + 1)) (sym c.from.ensures) c.requires)
-    c.pop-receiver.result.0 (stood c.args.core.now.stack c.pop-receiver.result.1) c.pop-receiver.ensures.stood (omega (arith, few, same)) c.args.place
-    c.class_of-class.result c.class_of-class.ensures)
+pub send_below-requires : goal.send_below-requires
+send_below-requires c =
+    let few : Fits w8 c.args.send.now.argc = search rules in
+    can_send_below c.args.code.now c.args.core.now c.args.at c.args.send.now c.requires c.pop-receiver.result.0 (stood c.args.core.now.stack c.pop-receiver.result.1)
+    (subst (λ (n : ℕ). stood c.args.core.now.stack (with_top (c.args.at.top - n) c.args.at)
+    ≡ pushed c.pop-receiver.result.0 (stood c.args.core.now.stack c.pop-receiver.result.1)) c.from.ensures c.pop-receiver.ensures.stood)
+    (omega (arith, few))
 
 pub returns : goal.returns
 returns c =
-    subst (λ (n : ℕ). ToTopLeads c.args.code.now c.args.core.now c.args.at c.args.sel n c.args.place c.args.kind c.send_to.new.core c.send_to.result) c.from.ensures
-    (leads_to_top c.args.code.now c.args.core.now c.args.at c.args.sel c.from.result
-    (subst (λ (n : ℕ). SendsOperands c.args.code.now c.args.core.now c.args.at c.args.sel n (n + 1)) (sym c.from.ensures) c.requires)
-    c.pop-receiver.result.0 (stood c.args.core.now.stack c.pop-receiver.result.1) c.pop-receiver.ensures.stood c.args.place c.class_of-class.result c.args.kind
-    c.send_to.new.core c.send_to.result (ap (λ (r : Registers). stood c.args.core.now.stack r) c.pop-receiver.ensures.at)
-    (subst (λ (floor : ℕ). SendLeads c.args.code.now c.args.core.now c.args.at
-    (record { site = record { place = c.args.place; class = c.class_of-class.result; sel = c.args.sel }; floor = floor; first = c.args.at.top - c.from.result })
-    c.pop-receiver.result.0 c.args.kind c.send_to.new.core c.send_to.result)
-    (ap (λ (r : Registers). r.top) c.pop-receiver.ensures.at) c.send_to.ensures))
+    below_to_top c.args.code.now c.args.core.now c.args.at c.args.send.now c.requires c.pop-receiver.result.0 (stood c.args.core.now.stack c.pop-receiver.result.1)
+    (subst (λ (n : ℕ). stood c.args.core.now.stack (with_top (c.args.at.top - n) c.args.at)
+    ≡ pushed c.pop-receiver.result.0 (stood c.args.core.now.stack c.pop-receiver.result.1)) c.from.ensures c.pop-receiver.ensures.stood)
+    c.send_below.new.core c.send_below.result
+    (ap (λ (r : Registers). stood c.args.core.now.stack r) c.pop-receiver.ensures.at
+    ∙ ap (λ (n : ℕ). stood c.args.core.now.stack (with_top (c.args.at.top - n - 1) c.args.at)) c.from.ensures)
+    c.send_below.ensures

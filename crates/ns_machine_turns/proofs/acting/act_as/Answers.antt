@@ -4,11 +4,10 @@ use Rattle.ns_world.specs.declared.ending.Counters.{Counters}
 use Rattle.ns_machine_core.specs.declared.state.Core.{Core}
 use Rattle.ns_machine_core.specs.declared.state.Next.{Next}
 use Rattle.ns_machine_core.specs.declared.state.Next.TheVariants.{On, Waits}
-use Rattle.ns_machine_core.specs.Ready.{MakesMove}
 use Rattle.ns_machine_returns.specs.Acting.{awaiting}
-use Rattle.ns_machine_turns.specs.Turning.{HasGone}
+use Rattle.ns_machine_turns.specs.Turning.{GoesAlong, HasGone}
 use Rattle.ns_machine_turns.proofs.Along.{none_gone}
-use Rattle.ns_machine_turns.proofs.Looped.{block_stands}
+use Rattle.ns_machine_turns.proofs.Looped.{topmost_loops}
 use Rattle.ns_machine_turns.proofs.acting.act_as.Goals as goal
 
 pub ask-requires-clause-can : goal.ask-requires-clause-can
@@ -32,6 +31,9 @@ overflow_sub-counters c =
     let counted = ap (λ (used : Counters). used.steps) c.counters.ensures in
     omega (arith, on, begun, counted)
 
+pub let_wait-requires : goal.let_wait-requires
+let_wait-requires c = topmost_loops c.looping_by-frame.result c.prepare-above.new.core.stack.frames.items c.prepare-above.ensures.top
+
 pub returns-then-left-counters : goal.returns-then-left-counters
 returns-then-left-counters c =
     let gone : HasGone c.args.code.now c.args.plan.now c.args.own c.args.left c.args.core.now (On c.args.at)
@@ -43,23 +45,12 @@ returns-then-left-counters c =
     subst (λ (next : Next). HasGone c.args.code.now c.args.plan.now c.args.own c.args.left c.args.core.now (On c.args.at) c.let_wait.new.core next)
     (sym c.let_wait.ensures.at)
     (subst (λ (core : Core). HasGone c.args.code.now c.args.plan.now c.args.own c.args.left c.args.core.now (On c.args.at) core (Waits c.prepare-above.result))
-    (sym c.let_wait.ensures.waits) gone)
+    (sym (c.let_wait.ensures.waits c.looping_by-frame.result c.prepare-above.ensures.top))
+    (subst (λ (block : Value). HasGone c.args.code.now c.args.plan.now c.args.own c.args.left c.args.core.now (On c.args.at)
+    (awaiting c.looping_by-frame.result block c.prepare-above.new.core) (Waits c.prepare-above.result)) c.in-Ref.is gone))
 
-pub evaluate_apart-requires : goal.evaluate_apart-requires
-evaluate_apart-requires c =
-    let gone : HasGone c.args.code.now c.args.plan.now c.args.own c.args.left c.args.core.now (On c.args.at)
-    (awaiting c.looping_by-frame.result c.in-Evaluates.block c.prepare-above.new.core) (Waits c.prepare-above.result) =
-    c.moves_go_along.ensures c.args.code.now c.args.plan.now c.args.own c.args.left c.args.core.now c.args.core.now
-    (awaiting c.looping_by-frame.result c.in-Evaluates.block c.prepare-above.new.core) (On c.args.at) (On c.args.at) (Waits c.prepare-above.result)
-    (none_gone c.args.code.now c.args.plan.now c.args.own c.args.left c.args.core.now (On c.args.at) c.requires.runs) refl refl
-    (let some = c.requires.some in omega (arith, some)) (c.prepare-above.ensures.moves c.args.core.now c.in-Evaluates.ensures) in (
-      c.looping_by-frame.result,
-      block_stands c.args.code.now c.args.plan.now c.args.own c.args.left c.args.core.now (On c.args.at) c.prepare-above.new.core c.prepare-above.result
-          c.looping_by-frame.result c.in-Evaluates.block c.in-Ref.cell c.in-Ref.is gone.along c.prepare-above.ensures.top c.prepare-above.ensures.place,
-    )
-
-pub returns-in-Ref : goal.returns-in-Ref
-returns-in-Ref c =
+pub returns-else-left-counters : goal.returns-else-left-counters
+returns-else-left-counters c =
     let gone : HasGone c.args.code.now c.args.plan.now c.args.own c.args.left c.args.core.now (On c.args.at)
     (awaiting c.looping_by-frame.result c.in-Evaluates.block c.prepare-above.new.core) (Waits c.prepare-above.result) =
     c.moves_go_along.ensures c.args.code.now c.args.plan.now c.args.own c.args.left c.args.core.now c.args.core.now
@@ -68,14 +59,17 @@ returns-in-Ref c =
     (let some = c.requires.some in omega (arith, some)) (c.prepare-above.ensures.moves c.args.core.now c.in-Evaluates.ensures) in
     let begun = ap (λ (used : Counters). used.steps) c.counters-begun.ensures in
     let counted = ap (λ (used : Counters). used.steps) c.counters.ensures in
-    c.moves_go_along.ensures c.args.code.now c.args.plan.now c.args.own c.args.left c.args.core.now
-    (awaiting c.looping_by-frame.result c.in-Evaluates.block c.prepare-above.new.core) c.evaluate_apart.new.core (On c.args.at)
-    (Waits c.prepare-above.result) c.evaluate_apart.result gone.along refl refl (omega (arith, begun, counted, c.if-left-counters.false))
-    (subst (λ (block : Value). MakesMove c.args.code.now (awaiting c.looping_by-frame.result block c.prepare-above.new.core) (Waits c.prepare-above.result)
-    c.evaluate_apart.new.core c.evaluate_apart.result) (sym c.in-Ref.is)
-    (c.evaluate_apart.ensures c.looping_by-frame.result
-    (block_stands c.args.code.now c.args.plan.now c.args.own c.args.left c.args.core.now (On c.args.at) c.prepare-above.new.core c.prepare-above.result
-    c.looping_by-frame.result c.in-Evaluates.block c.in-Ref.cell c.in-Ref.is gone.along c.prepare-above.ensures.top c.prepare-above.ensures.place)))
+    record {
+      looping = c.looping_by-frame.result;
+      along = subst (λ (block : Value). GoesAlong c.args.code.now c.args.plan.now c.args.own c.args.left c.args.core.now (On c.args.at)
+          (awaiting c.looping_by-frame.result block c.prepare-above.new.core) (Waits c.prepare-above.result)) c.in-Ref.is gone.along;
+      few = omega (arith, begun, counted, c.if-left-counters.false);
+      top = c.prepare-above.ensures.top;
+      place = c.prepare-above.ensures.place;
+    }
+
+pub let_wait-requires-in_default : goal.let_wait-requires-in_default
+let_wait-requires-in_default c = topmost_loops c.looping_by-frame.result c.prepare-above.new.core.stack.frames.items c.prepare-above.ensures.top
 
 pub returns-in_default : goal.returns-in_default
 returns-in_default c =
@@ -88,7 +82,7 @@ returns-in_default c =
     subst (λ (next : Next). HasGone c.args.code.now c.args.plan.now c.args.own c.args.left c.args.core.now (On c.args.at) c.let_wait-in_default.new.core next)
     (sym c.let_wait-in_default.ensures.at)
     (subst (λ (core : Core). HasGone c.args.code.now c.args.plan.now c.args.own c.args.left c.args.core.now (On c.args.at) core (Waits c.prepare-above.result))
-    (sym c.let_wait-in_default.ensures.waits) gone)
+    (sym (c.let_wait-in_default.ensures.waits c.looping_by-frame.result c.prepare-above.ensures.top)) gone)
 
 pub end_method-requires-clause-asked : goal.end_method-requires-clause-asked
 end_method-requires-clause-asked c = (c.args.core.now, c.in-Ends.ensures)

@@ -1,9 +1,6 @@
-use Rattle.std.proofs.Common.{◌-◌, ◌<◌, ap, refl, subst, arith}
+use Rattle.std.proofs.Common.{ap, refl, arith}
 use Rattle.ns_world.specs.declared.ending.Counters.{Counters}
-use Rattle.ns_machine_core.specs.declared.state.Next.{Next}
-use Rattle.ns_machine_core.specs.declared.state.Next.TheVariants.{On}
-use Rattle.ns_machine_core.specs.Shown.{shown}
-use Rattle.ns_moves.specs.Falling.{run_left}
+use Rattle.ns_machine_core.specs.declared.state.Next.TheVariants.{On, Waits, Ended}
 use Rattle.ns_machine_turns.specs.Turning.{HasGone}
 use Rattle.ns_machine_turns.proofs.Along.{none_gone, gone_since}
 use Rattle.ns_machine_turns.proofs.turning.run_along.Goals as goal
@@ -14,81 +11,58 @@ along-init c =
     record {
       along = none_gone c.args.code.now c.args.plan.now c.args.own c.args.left c.args.core.now (On c.args.at) c.requires.runs;
       begun = ap (λ (used : Counters). used.steps) c.counters-begun.ensures;
-      few = omega (arith, some);
+      rest = omega (arith, some);
+      some = some;
     }
 
--- ---- the steps left
+-- ---- straight on in a body, and one move more
 
-pub overflow_sub-used : goal.overflow_sub-used
-overflow_sub-used c =
-    let on = c.along.invariant.along.onward in
+pub returns-then-rest-eq0 : goal.returns-then-rest-eq0
+returns-then-rest-eq0 c =
+    gone_since c.args.code.now c.args.plan.now c.args.own c.args.left c.along.rest c.args.core.now c.along.core c.go_straight.new.core (On c.args.at)
+    (On c.along.here) (On c.in-On.to) c.along.invariant.along refl c.along.invariant.rest c.in-On.ensures
+
+pub along-preserved-in-On : goal.along-preserved-in-On
+along-preserved-in-On c =
+    let gone : HasGone c.args.code.now c.args.plan.now c.args.own c.args.left c.args.core.now (On c.args.at) c.go_straight.new.core (On c.in-On.to) =
+    gone_since c.args.code.now c.args.plan.now c.args.own c.args.left c.along.rest c.args.core.now c.along.core c.go_straight.new.core (On c.args.at)
+    (On c.along.here) (On c.in-On.to) c.along.invariant.along refl c.along.invariant.rest c.in-On.ensures in
     let begun = c.along.invariant.begun in
-    let counted = ap (λ (used : Counters). used.steps) c.counters.ensures in
-    omega (arith, on, begun, counted)
-
-pub overflow_sub-left : goal.overflow_sub-left
-overflow_sub-left c =
-    let few = c.along.invariant.few in
-    let begun = c.along.invariant.begun in
-    let counted = ap (λ (used : Counters). used.steps) c.counters.ensures in
-    omega (arith, few, begun, counted)
-
-pub advance-moved-requires-clause-some : goal.advance-moved-requires-clause-some
-advance-moved-requires-clause-some c =
-    let few = c.along.invariant.few in
-    let begun = c.along.invariant.begun in
-    let counted = ap (λ (used : Counters). used.steps) c.counters.ensures in
-    omega (arith, few, begun, counted)
-
--- ---- what has gone
-
-pub overflow_sub-counters : goal.overflow_sub-counters
-overflow_sub-counters c =
-    let begun = c.along.invariant.begun in
-    let used = ap (λ (used : Counters). used.steps) c.counters.ensures in
-    let gone = gone_since c.args.code.now c.args.plan.now c.args.own c.args.left (c.args.left - (c.counters.result.steps - c.counters-begun.result.steps))
-    c.args.core.now c.along.core c.advance-moved.new.core (On c.args.at) (On c.along.here) c.advance-moved.result c.along.invariant.along refl
-    (omega (arith, begun, used)) c.advance-moved.ensures in
-    let on = gone.along.onward in
-    let counted = ap (λ (used : Counters). used.steps) c.counters-in-On.ensures in
-    omega (arith, on, begun, counted)
-
-pub returns-then-left-counters : goal.returns-then-left-counters
-returns-then-left-counters c =
-    let begun = c.along.invariant.begun in
-    let used = ap (λ (used : Counters). used.steps) c.counters.ensures in
-    subst (λ (next : Next). HasGone c.args.code.now c.args.plan.now c.args.own c.args.left c.args.core.now (On c.args.at) c.advance-moved.new.core next)
-    c.in-On.is
-    (gone_since c.args.code.now c.args.plan.now c.args.own c.args.left (c.args.left - (c.counters.result.steps - c.counters-begun.result.steps))
-    c.args.core.now c.along.core c.advance-moved.new.core (On c.args.at) (On c.along.here) c.advance-moved.result c.along.invariant.along refl
-    (omega (arith, begun, used)) c.advance-moved.ensures)
+    let told = c.steps_left-rest.ensures in
+    record { along = gone.along; begun = begun; rest = omega (arith, told, begun); some = omega (arith, c.if-rest-eq0.false) }
 
 pub returns-in-Waits : goal.returns-in-Waits
 returns-in-Waits c =
-    let begun = c.along.invariant.begun in
-    let used = ap (λ (used : Counters). used.steps) c.counters.ensures in
-    gone_since c.args.code.now c.args.plan.now c.args.own c.args.left (c.args.left - (c.counters.result.steps - c.counters-begun.result.steps))
-    c.args.core.now c.along.core c.advance-moved.new.core (On c.args.at) (On c.along.here) c.advance-moved.result c.along.invariant.along refl
-    (omega (arith, begun, used)) c.advance-moved.ensures
+    gone_since c.args.code.now c.args.plan.now c.args.own c.args.left c.along.rest c.args.core.now c.along.core c.go_straight.new.core (On c.args.at)
+    (On c.along.here) (Waits c.in-Waits.to) c.along.invariant.along refl c.along.invariant.rest c.in-Waits.ensures
 
-pub along-smaller : goal.along-smaller
-along-smaller c =
-    subst (λ (next : Next). run_left c.args.code.now (shown c.args.code.now c.advance-moved.new.core next)
-    < run_left c.args.code.now (shown c.args.code.now c.along.core (On c.along.here))) c.in-On.is c.advance-moved.ensures.falls
+pub returns-in-Ended : goal.returns-in-Ended
+returns-in-Ended c =
+    gone_since c.args.code.now c.args.plan.now c.args.own c.args.left c.along.rest c.args.core.now c.along.core c.go_straight.new.core (On c.args.at)
+    (On c.along.here) Ended c.along.invariant.along refl c.along.invariant.rest c.in-Ended.ensures
+
+-- ---- the next action of a method of the kernel
+
+pub returns-then-rest-eq0-2 : goal.returns-then-rest-eq0-2
+returns-then-rest-eq0-2 c =
+    gone_since c.args.code.now c.args.plan.now c.args.own c.args.left c.along.rest c.args.core.now c.along.core c.act_along.new.core (On c.args.at)
+    (On c.along.here) (On c.in-On-act_along.to) c.along.invariant.along refl c.along.invariant.rest c.in-On-act_along.ensures
 
 pub along-preserved : goal.along-preserved
 along-preserved c =
+    let gone : HasGone c.args.code.now c.args.plan.now c.args.own c.args.left c.args.core.now (On c.args.at) c.act_along.new.core (On c.in-On-act_along.to) =
+    gone_since c.args.code.now c.args.plan.now c.args.own c.args.left c.along.rest c.args.core.now c.along.core c.act_along.new.core (On c.args.at)
+    (On c.along.here) (On c.in-On-act_along.to) c.along.invariant.along refl c.along.invariant.rest c.in-On-act_along.ensures in
     let begun = c.along.invariant.begun in
-    let used = ap (λ (used : Counters). used.steps) c.counters.ensures in
-    let gone : HasGone c.args.code.now c.args.plan.now c.args.own c.args.left c.args.core.now (On c.args.at) c.advance-moved.new.core (On c.in-On.to) =
-    subst (λ (next : Next). HasGone c.args.code.now c.args.plan.now c.args.own c.args.left c.args.core.now (On c.args.at) c.advance-moved.new.core next)
-    c.in-On.is
-    (gone_since c.args.code.now c.args.plan.now c.args.own c.args.left (c.args.left - (c.counters.result.steps - c.counters-begun.result.steps))
-    c.args.core.now c.along.core c.advance-moved.new.core (On c.args.at) (On c.along.here) c.advance-moved.result c.along.invariant.along refl
-    (omega (arith, begun, used)) c.advance-moved.ensures) in
-    let counted = ap (λ (used : Counters). used.steps) c.counters-in-On.ensures in
-    record {
-      along = gone.along;
-      begun = begun;
-      few = omega (arith, begun, counted, c.if-left-counters.false);
-    }
+    let told = c.steps_left-rest-in-On-act_along.ensures in
+    record { along = gone.along; begun = begun; rest = omega (arith, told, begun); some = omega (arith, c.if-rest-eq0-2.false) }
+
+pub returns-in-Waits-act_along : goal.returns-in-Waits-act_along
+returns-in-Waits-act_along c =
+    gone_since c.args.code.now c.args.plan.now c.args.own c.args.left c.along.rest c.args.core.now c.along.core c.act_along.new.core (On c.args.at)
+    (On c.along.here) (Waits c.in-Waits-act_along.to) c.along.invariant.along refl c.along.invariant.rest c.in-Waits-act_along.ensures
+
+pub returns-in-Ended-act_along : goal.returns-in-Ended-act_along
+returns-in-Ended-act_along c =
+    gone_since c.args.code.now c.args.plan.now c.args.own c.args.left c.along.rest c.args.core.now c.along.core c.act_along.new.core (On c.args.at)
+    (On c.along.here) Ended c.along.invariant.along refl c.along.invariant.rest c.in-Ended-act_along.ensures
