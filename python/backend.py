@@ -24,7 +24,7 @@ Tag: {TAG}
 
 def _contents():
     """Each file of the wheel with its bytes."""
-    paths = {f"nspk/{name}": os.path.join(HERE, "nspk", name) for name in ("__init__.py", "py.typed")}
+    paths = {f"nspk/{name}": os.path.join(HERE, "nspk", name) for name in ("__init__.py", "_library.py", "program.py", "py.typed")}
     if not os.path.isfile(LIBRARY):
         raise FileNotFoundError("out/embed/libnspk.so isn't there: run tools/build-embed first")
     paths["nspk/libnspk.so"] = LIBRARY

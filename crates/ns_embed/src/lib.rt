@@ -1,6 +1,6 @@
-//! The program as a static library for C: one call over memory.
-//! `crates/ns_host/specs/Host.antt` says what it asks for, and what it is given.
-//! Stands on ns_host; `include/nspk.h` tells C of it.
+//! The program as a static library for C: one call over memory, and three on programs that a host keeps as bytes.
+//! `crates/ns_host/specs/Host.antt` and `crates/ns_opened/specs/Host.antt` say what they ask for, and what is given.
+//! Stands on ns_host and ns_opened; `include/nspk.h` tells C of it.
 #![tactic(auto)]
 
 ghost use Rattle.std.specs.Prelude.{◌≡◌, ◌==◌, ◌≢◌, not};
@@ -9,6 +9,8 @@ ghost use Rattle.ns_host.specs.Host.{Ends, IsUntouched, called, is_call};
 
 use ns_host::call::{Lengths, call};
 use std::alloc::Global;
+
+pub mod program;
 
 /// The status of a call of which the lengths don't divide the bytes into words and files, or a word isn't UTF-8.
 pub const MALFORMED: u8 = 7;

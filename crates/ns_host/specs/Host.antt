@@ -1,5 +1,5 @@
 -- What a host asks for, and what it is given.
-use Rattle.std.specs.Prelude.{◌≡◌, ◌⊎◌, ◌&&◌, ◌==◌, ◌-◌, ◌%◌, ℕ, Bool, nat_le, List, [], ◌∷◌, ◌++◌, take, drop, length, sum, Option, Some, None, if◌then◌else◌}
+use Rattle.std.specs.Prelude.{◌≡◌, ◌⊎◌, ◌&&◌, ◌==◌, ◌-◌, ◌%◌, ℕ, Bool, nat_le, List, [], ◌∷◌, take, drop, length, sum, Option, Some, None, if◌then◌else◌}
 use Rattle.std.specs.List.{list_all}
 use Rattle.std.specs.Str.{bytes_eq, is_utf8}
 use Rattle.std.specs.Global.{Vec}
@@ -8,6 +8,7 @@ use Rattle.ns_base.specs.Status.{exit_code}
 use Rattle.ns_base.specs.declared.status.Status.{Status}
 use Rattle.ns_base.specs.declared.status.Status.TheVariants.{Memory}
 use Rattle.ns_host.specs.declared.call.Lengths.{Lengths}
+use Rattle.ns_reply.specs.Room.{given}
 use Rattle.ns_run.specs.Meaning.{meaning}
 use Rattle.ns_run_outcome.specs.Outcome.{IsEnding}
 use Rattle.ns_run_outcome.specs.Store.{FileStored}
@@ -66,10 +67,6 @@ pub record Rooms : Type 0 where
   pub out : List ℕ
   pub err : List ℕ
   pub stored : List ℕ
-
--- what stands in a room that was given these bytes: the first of them, as many as there is room for, and then what stood there
-abbrev pub given : (bytes room : List ℕ) → List ℕ
-given bytes room = take (length room) bytes ++ drop (length bytes) room
 
 -- the bytes that are stored; none where nothing is
 abbrev pub bytes_stored : Option FileStored → List ℕ

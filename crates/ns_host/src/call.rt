@@ -8,11 +8,11 @@ ghost use Rattle.ns_run.specs.Meaning.{meaning};
 ghost use Rattle.ns_run_outcome.specs.Outcome.{IsEnding};
 
 use crate::asked::{Asked, is_call, read};
-use crate::give::give;
 use ns_base::no_memory::NoMemory;
 use ns_base::status::Status;
 use ns_base::sure_shelf::SureShelf;
 use ns_base::text::Text;
+use ns_reply::give::give;
 use ns_run::top::work;
 use ns_run_outcome::report::{Report, Stored};
 use ns_run_outcome::stop::Stop;

@@ -7,4 +7,3 @@ pub mod asked;
 pub mod call;
 #[cfg(test)]
 mod call_tests;
-mod give;

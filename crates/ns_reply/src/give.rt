@@ -1,7 +1,7 @@
 //! What a host is given.
 
 ghost use Rattle.std.specs.Prelude.{◌≡◌, length};
-ghost use Rattle.ns_host.specs.Host.{given as given_lem};
+ghost use Rattle.ns_reply.specs.Room.{given as given_lem};
 
 /// Puts the first of the bytes into the room, as many as there is room for, and answers how many bytes there are.
 pub fn give(bytes: &[u8], room: &mut [u8]) -> u64
