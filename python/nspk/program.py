@@ -98,23 +98,13 @@ class Program:
         *,
         others: Sequence[str] = (),
         lib: bool = False,
-        console: bool = False,
-        kernel: bool = False,
-        mirrors: bool = False,
-        steps: int = 10_000_000,
-        cells: int = 4_000_000,
-        depth: int = 10_000,
-        out: int = 1_048_576,
-        turn: int = WHOLE,
+        **terms: int,
     ) -> Program:
-        """Opens the class of the file `name`, with the files `others` behind it, within these limits and with these grants."""
+        """Opens the class of the file `name`, with the files `others` behind it, on the terms of `open_image`."""
         built = _library.call(["build", *["--lib"] * lib, "image", name, *others], files)
         if built.status:
             raise Refused(built.report)
-        return cls.open_image(
-            built.stored, arguments, console=console, kernel=kernel, mirrors=mirrors,
-            steps=steps, cells=cells, depth=depth, out=out, turn=turn,
-        )
+        return cls.open_image(built.stored, arguments, **terms)
 
     @classmethod
     def open_image(
@@ -131,7 +121,7 @@ class Program:
         out: int = 1_048_576,
         turn: int = WHOLE,
     ) -> Program:
-        """Opens the program of an image that `build` stored."""
+        """Opens the program of an image that `build` stored: within these limits, granted what is named, with a first turn of so many steps."""
         program = cls(next(_names), b"")
         terms = _Terms(program._name, steps, cells, depth, out, console, kernel, mirrors, turn)
         values, texts = _handed(arguments)
