@@ -1,11 +1,11 @@
 -- A small run as plain data, and what of it can't be.
-use Rattle.std.specs.Prelude.{◌≡◌, ℕ, List, [], ◌∷◌, map, Option, Some, None, Bool, true, false, codes, pos}
-use Rattle.std.proofs.Common.{refl}
+use Rattle.std.specs.Prelude.{◌≡◌, ℕ, List, [], ◌∷◌, map, Some, None, false, codes, pos}
+use Rattle.std.proofs.Common.{refl, negsuc}
 use Rattle.ns_base.specs.declared.limits.Limits.{Limits}
 use Rattle.ns_code.specs.declared.program.CodeProgram.{CodeProgram}
 use Rattle.ns_code.specs.declared.instruction.Instr.TheVariants as instr
 use Rattle.ns_code.specs.Sample.{sel, method_of, class_of, body_of}
-use Rattle.ns_world.specs.declared.value.Value.TheVariants.{Ref}
+use Rattle.ns_world.specs.declared.value.Value.TheVariants.{Int, Ref}
 use Rattle.ns_facets.specs.declared.row.Grants.{Grants}
 use Rattle.ns_moves.specs.Move.{moves}
 use Rattle.ns_moves.specs.Starts.{new_machine, started}
@@ -14,6 +14,8 @@ use Rattle.ns_frozen.specs.declared.fault.RestoreFault.TheVariants.{BadLimits, B
 use Rattle.ns_frozen.specs.declared.frame.FrameKind.TheVariants as kinds
 use Rattle.ns_frozen.specs.declared.frame.FrozenFrame.{FrozenFrame}
 use Rattle.ns_frozen.specs.declared.frozen.Frozen.{Frozen}
+use Rattle.ns_frozen.specs.declared.plain.Parts.TheVariants as parts
+use Rattle.ns_frozen.specs.Plain.{value_of}
 use Rattle.ns_frozen.specs.Freezing.{frozen_of}
 use Rattle.ns_frozen.specs.Thawing.{thawed}
 use Rattle.ns_frozen.specs.Fault.{fault_of, restore_fault}
@@ -90,3 +92,11 @@ no_object = refl
 -- more methods than steps
 many_homes : fault_of code (record (frozen begun) { homes = 100 }) ≡ Some BadRest
 many_homes = refl
+
+-- ---- values in little memory
+
+a_number_begins_with_its_least : value_of (parts.Ref (1 ∷ 2 ∷ 0 ∷ 0 ∷ [])) ≡ Ref 513
+a_number_begins_with_its_least = refl
+
+ones_are_one_below_zero : value_of (parts.Int (255 ∷ 255 ∷ 255 ∷ 255 ∷ 255 ∷ 255 ∷ 255 ∷ 255 ∷ [])) ≡ Int (negsuc 0)
+ones_are_one_below_zero = refl

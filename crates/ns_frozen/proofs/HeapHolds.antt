@@ -126,7 +126,7 @@ linked_ordered code (cell ∷ earlier) all = and_from (has_superclass earlier ce
 one_based : (code : CodeProgram) (earlier : Heap) (one : CellData) → IsBased code earlier (cell_thawed code earlier one)
 one_based code earlier (cell.Object class words) = tt
 one_based code earlier (cell.Class decl encl holder over) = refl
-one_based code earlier (cell.Block body env home receiver holder) = tt
+one_based code earlier (cell.Block body env receiver holder home) = tt
 one_based code earlier (cell.Environment parent locals) = tt
 one_based code earlier (cell.Array items) = tt
 one_based code earlier (cell.Text bytes) = tt

@@ -1,3 +1,4 @@
+pub mod Parts
 pub mod Cells
 pub mod Numbers
 pub mod Thawed

@@ -1,5 +1,5 @@
 -- A good frame of a method of the kernel is one that a run can have.
-use Rattle.std.proofs.Common.{◌≡◌, ℕ, refl, subst, Option, Some, None, Bool, true, false, ◌&&◌}
+use Rattle.std.proofs.Common.{◌≡◌, ℕ, refl, subst, Option, Some, None, true, false, ◌&&◌}
 use Rattle.std.proofs.lemmas.Bool.{and_parts}
 use Rattle.std.proofs.lemmas.Option.{same_Some}
 use Rattle.std.specs.Option.{option_map_or, ForSome}

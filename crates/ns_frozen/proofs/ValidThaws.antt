@@ -1,7 +1,7 @@
 -- A valid frozen state stands for a state in which a run can be.
 use Rattle.std.proofs.Common.{◌≡◌, ℕ, zero, suc, ◌+◌, ◌≤◌, List, [], ◌∷◌, length, drop, reverse, refl, ap, sym, ◌∙◌, subst, arith, Option, Some, None, Bool, true, false, cond, not, ◌&&◌, ◌||◌}
 use Rattle.std.proofs.lemmas.Bool.{and_parts, cond-true, cond-false, eqb-true, leb-true, le-ltb, lt-ltb, not-true}
-use Rattle.std.specs.Prelude.{IsTrue, nat_lt, nat_le, ◌==◌, is_some, unwrap_or, if◌then◌else◌}
+use Rattle.std.specs.Prelude.{IsTrue, nat_lt, nat_le, is_some, unwrap_or, if◌then◌else◌}
 use Rattle.ns_code.specs.declared.program.CodeProgram.{CodeProgram}
 use Rattle.ns_code.specs.Soundness.{are_parents_earlier, has_sound_classes}
 use Rattle.ns_verify.specs.Verify.{IsSound}
@@ -14,23 +14,21 @@ use Rattle.ns_facets.specs.declared.row.Grants.{Grants}
 use Rattle.ns_moves.specs.Control.{Progress}
 use Rattle.ns_moves.specs.Start.{standing_cells, size_of_cells}
 use Rattle.ns_moves.specs.State.{Frame, Pends}
-use Rattle.ns_moves.specs.Valid.{fitting, array_behind, WorldIsValid, HasArgumentCells, HasArgumentsIn, PendingIsValid, EndingIsValid, EndIsValid, GoesOn, Valid, has_begun, has_frame}
+use Rattle.ns_moves.specs.Valid.{fitting, array_behind, WorldIsValid, HasArgumentCells, HasArgumentsIn, EndingIsValid, EndIsValid, GoesOn, Valid, has_begun, has_frame}
 use Rattle.ns_moves.specs.ValidFrames.{Nothing, SendValue, BlockValue, awaited_below, awaited_for, FramesAreValid}
 use Rattle.ns_frozen.specs.declared.frame.FrameKind.{FrameKind}
 use Rattle.ns_frozen.specs.declared.frame.FrameKind.TheVariants as kinds
 use Rattle.ns_frozen.specs.declared.frame.FrozenFrame.{FrozenFrame}
 use Rattle.ns_frozen.specs.declared.pending.Pending.{Pending}
 use Rattle.ns_frozen.specs.declared.pending.Pending.TheVariants as waiting
-use Rattle.ns_frozen.specs.declared.frozen.Frozen.{Frozen}
-use Rattle.ns_frozen.specs.Thawing.{heap_thawed, is_at_super, frame_thawed, is_below, frames_onto, frames_thawed, pending_thawed, arguments_in, phase_thawed, world_thawed, progress_thawed, going_thawed, state_at, thawed}
+use Rattle.ns_frozen.specs.Thawing.{heap_thawed, is_at_super, frame_thawed, is_below, frames_onto, frames_thawed, pending_thawed, arguments_in, phase_thawed, world_thawed, progress_thawed, going_thawed, state_at}
 use Rattle.ns_frozen.specs.Cells.{ends_start, wants_arguments}
-use Rattle.ns_frozen.specs.Frames.{Above, Free, Waiting, is_under_initialiser, above_all, bad_frame_from}
+use Rattle.ns_frozen.specs.Frames.{Above, Free, Waiting, above_all, bad_frame_from}
 use Rattle.ns_frozen.specs.Live.{is_live}
 use Rattle.ns_frozen.specs.Rest.{is_deep, ends_in, goes_on, is_on_kernel, is_good_pending, is_good_waiting, is_good_ending, is_good_end}
-use Rattle.ns_frozen.specs.Fault.{IsValid}
-use Rattle.ns_frozen.specs.Laws.{CanStand, ValidThaws}
+use Rattle.ns_frozen.specs.Laws.{ValidThaws}
 use Rattle.ns_frozen.proofs.CellsTold.{HaveArguments}
-use Rattle.ns_frozen.proofs.FrameHolds.{Given, and_false}
+use Rattle.ns_frozen.proofs.FrameHolds.{and_false}
 use Rattle.ns_frozen.proofs.Framed.{or_false}
 use Rattle.ns_frozen.proofs.FramesHold.{awaited_by, frames_hold}
 use Rattle.ns_frozen.proofs.HomesHold.{homes_thawed}

@@ -30,7 +30,7 @@ use Rattle.ns_frozen.specs.declared.frozen.Frozen.{Frozen}
 abbrev pub cell_frozen : Cell → CellData
 cell_frozen (ObjectCell class entries) = cell.Object class entries
 cell_frozen (ClassCell decl base encl holder over) = cell.Class decl encl holder over
-cell_frozen (BlockCell body env home receiver holder) = cell.Block body env home receiver holder
+cell_frozen (BlockCell body env home receiver holder) = cell.Block body env receiver holder home
 cell_frozen (EnvironmentCell parent locals) = cell.Environment parent locals
 cell_frozen (ArrayCell items) = cell.Array items
 cell_frozen (TextCell bytes) = cell.Text bytes

@@ -31,7 +31,7 @@ use Rattle.ns_frozen.specs.declared.frozen.Frozen.{Frozen}
 abbrev pub cell_thawed : CodeProgram → Heap → CellData → Cell
 cell_thawed code earlier (cell.Object class words) = ObjectCell class words
 cell_thawed code earlier (cell.Class decl encl holder over) = ClassCell decl (entries_above earlier code over) encl holder over
-cell_thawed code earlier (cell.Block body env home receiver holder) = BlockCell body env home receiver holder
+cell_thawed code earlier (cell.Block body env receiver holder home) = BlockCell body env home receiver holder
 cell_thawed code earlier (cell.Environment parent locals) = EnvironmentCell parent locals
 cell_thawed code earlier (cell.Array items) = ArrayCell items
 cell_thawed code earlier (cell.Text bytes) = TextCell bytes

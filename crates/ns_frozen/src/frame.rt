@@ -1,5 +1,6 @@
 //! Frames as plain data.
 
+use crate::plain::PlainValue;
 use ns_base::items::Items;
 use ns_kcode::state::KState;
 use ns_moves::site::Site;
@@ -35,7 +36,7 @@ pub struct FrozenFrame {
     pub holder: u32,
     pub home: u64,
     pub env: Value,
-    pub locals: Items<Value>,
-    pub operands: Items<Value>,
+    pub locals: Items<PlainValue>,
+    pub operands: Items<PlainValue>,
     pub site: Site,
 }

@@ -9,3 +9,4 @@ pub mod frame;
 pub mod frozen;
 pub mod laws;
 pub mod pending;
+pub mod plain;

@@ -1,5 +1,6 @@
 //! What waits to be done next, as plain data.
 
+use crate::plain::PlainValue;
 use ns_base::items::Items;
 use ns_base::selector::Sel;
 use ns_moves::site::Site;
@@ -12,7 +13,7 @@ pub enum Pending {
     Send {
         receiver: Value,
         sel: Sel,
-        args: Items<Value>,
+        args: Items<PlainValue>,
         site: Site,
     },
     Perform {
@@ -23,7 +24,7 @@ pub enum Pending {
     },
     Evaluate {
         block: Value,
-        args: Items<Value>,
+        args: Items<PlainValue>,
         site: Site,
     },
 }

@@ -74,7 +74,7 @@ fn keep_cell(seen: &Seen<'_>, kept: &mut Vec<u32>, cell: &CellData) -> bool
     ensures { AreFitting seen.now.code.now (heap_of seen.now) seen.now.numbers kept.new.items }
 {
     match cell {
-        CellData::Block { body, env, .. } => keep_block(seen, kept, *body, *env),
+        CellData::Block { body, env, .. } => keep_block(seen, kept, *body, env.value()),
         _ => true,
     }
 }

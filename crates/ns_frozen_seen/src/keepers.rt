@@ -16,9 +16,9 @@ use crate::seen::Seen;
 use ns_base::no_memory::NoMemory;
 use ns_code::class::NestedCode;
 use ns_code::program::CodeProgram;
+use ns_frozen::plain::PlainValue;
 use ns_frozen_tables::kinds::{declaration, superclass};
 use ns_frozen_tables::numbers::place_of;
-use ns_world::value::Value;
 
 /// A class and its declaration, the first word for its nested classes, the place of the next class above it to look at for the
 /// words of an object, and the way up its chain.
@@ -49,7 +49,7 @@ impl Seen<'_> {
 
     /// Whether the words for the nested classes of each class in a chain are so, from the class at a place upwards, where there
     /// is one.
-    pub fn are_kept_at(&self, number: u128, words: &[Value], from: Option<u32>) -> bool
+    pub fn are_kept_at(&self, number: u128, words: &[PlainValue], from: Option<u32>) -> bool
         requires seen { IsSeen self.now }
         requires chained { spec.IsChained self.now.code.now (heap_of self.now) self.now.chains.numbers.items from }
         ensures { result ≡ spec.are_kept_at self.now.code.now (heap_of self.now) self.now.chains.numbers.items number words.now from }

@@ -12,11 +12,12 @@ use crate::seen::Seen;
 use crate::values::{is_ref, names};
 use ns_code::class::NestedCode;
 use ns_frozen::cell::CellData;
+use ns_frozen::plain::PlainValue;
 use ns_world::value::Value;
 
 impl Seen<'_> {
     /// Whether an object of a class has a word for each entry, which are live, and its nested classes are its own.
-    pub fn is_instance(&self, number: u128, class: u32, words: &[Value]) -> bool
+    pub fn is_instance(&self, number: u128, class: u32, words: &[PlainValue]) -> bool
         requires { IsSeen self.now }
         ensures { result ≡ spec.is_instance self.now.code.now (heap_of self.now) number class words.now }
     {
@@ -27,7 +28,7 @@ impl Seen<'_> {
     }
 
     /// The same of the class at a place.
-    fn is_instance_at(&self, number: u128, place: u32, words: &[Value]) -> bool
+    fn is_instance_at(&self, number: u128, place: u32, words: &[PlainValue]) -> bool
         requires seen { IsSeen self.now }
         requires there { place < length self.now.chains.numbers.items }
         ensures { result ≡ spec.is_instance self.now.code.now (heap_of self.now) number (get_or self.now.chains.numbers.items place 0) words.now }
@@ -43,7 +44,7 @@ impl Seen<'_> {
         &self,
         number: u128,
         holder: u32,
-        words: &[Value],
+        words: &[PlainValue],
         first: u64,
         nested: &[NestedCode],
     ) -> bool
@@ -84,11 +85,11 @@ impl Seen<'_> {
 }
 
 /// The word of that number, nil where there is none.
-fn word_at(words: &[Value], word: u64) -> Value
+fn word_at(words: &[PlainValue], word: u64) -> Value
     ensures { result ≡ slice_index_or words.now word value.Nil }
 {
     match words.get(word as usize) {
-        Some(word) => *word,
+        Some(word) => word.value(),
         None => Value::Nil,
     }
 }
@@ -105,7 +106,7 @@ fn is_kept_cell(object: u128, holder: u32, decl: u32, cell: Option<&CellData>) -
                 holder: outer,
                 ..
             },
-        ) => *other == decl && names(object, *encl) && is_ref(holder, *outer),
+        ) => *other == decl && names(object, encl.value()) && is_ref(holder, outer.value()),
         _ => false,
     }
 }

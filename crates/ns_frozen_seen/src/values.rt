@@ -12,6 +12,7 @@ ghost use Rattle.ns_frozen_seen.specs.Seen.{IsSeen, heap_of};
 
 use crate::seen::Seen;
 use ns_base::selector::Sel;
+use ns_frozen::plain::PlainValue;
 use ns_frozen_tables::kinds::{
     environment_in, is_array, is_block, is_environment, is_receiver_cell, item_count,
 };
@@ -40,12 +41,12 @@ impl Seen<'_> {
     }
 
     /// The same of some values.
-    pub fn are_live(&self, values: &[Value]) -> bool
+    pub fn are_live(&self, values: &[PlainValue]) -> bool
         requires { IsSeen self.now }
         ensures { result ≡ live.are_live self.now.code.now (heap_of self.now) values.now }
     {
         'values: for value in values {
-            if !self.is_live(*value) {
+            if !self.is_live(value.value()) {
                 return false;
             }
         }
@@ -67,7 +68,7 @@ impl Seen<'_> {
 
     /// The parent and the locals of the environment of that number, if it is one.
     #[tactic(auto, using(crate::proofs::Asked::environment_parts))]
-    pub fn environment(&self, at: u32) -> Option<(Value, &[Value])>
+    pub fn environment(&self, at: u32) -> Option<(Value, &[PlainValue])>
         requires { IsSeen self.now }
         ensures { option_map (λ parts. (parts.0, parts.1.now)) result ≡ environment_in (heap.find_cell (heap_of self.now) at) }
     {

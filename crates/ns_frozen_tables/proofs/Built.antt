@@ -84,7 +84,7 @@ pub other_kept : (code : CodeProgram) (heap : Heap) (one : CellData) (chains : C
     → AreChains code heap chains → AreChains code (cell_thawed code heap one ∷ heap) chains
 other_kept code heap (plain.Object class words) chains other are = other_more code (ObjectCell class words) heap chains refl are
 other_kept code heap (plain.Class decl encl holder over) chains other are = absurd (other decl encl holder over refl)
-other_kept code heap (plain.Block body env home receiver holder) chains other are = other_more code (BlockCell body env home receiver holder) heap chains refl are
+other_kept code heap (plain.Block body env receiver holder home) chains other are = other_more code (BlockCell body env home receiver holder) heap chains refl are
 other_kept code heap (plain.Environment parent locals) chains other are = other_more code (EnvironmentCell parent locals) heap chains refl are
 other_kept code heap (plain.Array items) chains other are = other_more code (ArrayCell items) heap chains refl are
 other_kept code heap (plain.Text bytes) chains other are = other_more code (TextCell bytes) heap chains refl are

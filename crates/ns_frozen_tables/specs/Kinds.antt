@@ -20,7 +20,7 @@ is_environment (Some (cell.Environment parent locals)) = true
 is_environment other = false
 
 abbrev pub is_block : Option CellData → Bool
-is_block (Some (cell.Block body env home receiver holder)) = true
+is_block (Some (cell.Block body env receiver holder home)) = true
 is_block other = false
 
 abbrev pub is_array : Option CellData → Bool

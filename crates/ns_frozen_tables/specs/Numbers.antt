@@ -8,7 +8,7 @@ use Rattle.ns_frozen.specs.declared.cell.CellData.TheVariants as cell
 abbrev pub data_size : CellData → ℕ
 data_size (cell.Object class words) = 1 + length words
 data_size (cell.Class decl encl holder over) = 4
-data_size (cell.Block body env home receiver holder) = 3
+data_size (cell.Block body env receiver holder home) = 3
 data_size (cell.Environment parent locals) = 1 + length locals
 data_size (cell.Array items) = 1 + length items
 data_size (cell.Text bytes) = 1 + text_words (length bytes)

@@ -61,7 +61,8 @@ impl Chains {
     {
         match cell {
             CellData::Class { decl, over, .. } => {
-                let chain = next_chain(code, *decl, *over, self.over(*over));
+                let over = over.value();
+                let chain = next_chain(code, *decl, over, self.over(over));
                 self.numbers.push(number)?;
                 self.chains.push(chain)?;
                 Ok(())

@@ -4,6 +4,7 @@ ghost use Rattle.std.specs.Prelude.{◌≡◌, option_map};
 ghost use Rattle.ns_frozen_tables.specs.Kinds as spec;
 
 use ns_frozen::cell::CellData;
+use ns_frozen::plain::PlainValue;
 use ns_world::value::Value;
 
 /// Whether a cell can be a receiver: it is there, and no environment.
@@ -82,7 +83,7 @@ pub fn superclass(cell: Option<&CellData>) -> Value
     ensures { result ≡ spec.superclass (option_map (λ cell. cell.now) cell.entry) }
 {
     match cell {
-        Some(CellData::Class { over, .. }) => *over,
+        Some(CellData::Class { over, .. }) => over.value(),
         _ => Value::Nil,
     }
 }
@@ -98,11 +99,11 @@ pub fn class_of(cell: Option<&CellData>) -> Option<u32>
 }
 
 /// The parent and the locals of an environment.
-pub fn environment_in(cell: Option<&CellData>) -> Option<(Value, &[Value])>
+pub fn environment_in(cell: Option<&CellData>) -> Option<(Value, &[PlainValue])>
     ensures { option_map (λ parts. (parts.0, parts.1.now)) result ≡ spec.environment_in (option_map (λ cell. cell.now) cell.entry) }
 {
     match cell {
-        Some(CellData::Environment { parent, locals }) => Some((*parent, locals.as_slice())),
+        Some(CellData::Environment { parent, locals }) => Some((parent.value(), locals.as_slice())),
         _ => None,
     }
 }

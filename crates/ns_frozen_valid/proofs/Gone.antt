@@ -36,7 +36,7 @@ same_good : (code : CodeProgram) (heap earlier : Heap) (homes number : ℕ) (cel
     → is_good_cell code heap homes number (cell_thawed code earlier cell) ≡ is_good_cell code heap homes number (cell_of code cell)
 same_good code heap earlier homes number (plain.Object class words) = refl
 same_good code heap earlier homes number (plain.Class decl encl holder over) = refl
-same_good code heap earlier homes number (plain.Block body env home receiver holder) = refl
+same_good code heap earlier homes number (plain.Block body env receiver holder home) = refl
 same_good code heap earlier homes number (plain.Environment parent locals) = refl
 same_good code heap earlier homes number (plain.Array items) = refl
 same_good code heap earlier homes number (plain.Text bytes) = refl
@@ -51,7 +51,7 @@ same_standing code earlier (FacetCell kind) cell = by_kind cell
     by_kind : (cell : CellData) → is_standing (FacetCell kind) (cell_thawed code earlier cell) ≡ is_standing (FacetCell kind) (cell_of code cell)
     by_kind (plain.Object class words) = refl
     by_kind (plain.Class decl encl holder over) = refl
-    by_kind (plain.Block body env home receiver holder) = refl
+    by_kind (plain.Block body env receiver holder home) = refl
     by_kind (plain.Environment parent locals) = refl
     by_kind (plain.Array items) = refl
     by_kind (plain.Text bytes) = refl
@@ -66,7 +66,7 @@ same_standing code earlier (ClassCell decl base encl holder over) cell = by_kind
     by_kind : (cell : CellData) → is_standing one (cell_thawed code earlier cell) ≡ is_standing one (cell_of code cell)
     by_kind (plain.Object class words) = refl
     by_kind (plain.Class decl' encl' holder' over') = refl
-    by_kind (plain.Block body env home receiver holder') = refl
+    by_kind (plain.Block body env receiver holder' home) = refl
     by_kind (plain.Environment parent locals) = refl
     by_kind (plain.Array items) = refl
     by_kind (plain.Text bytes) = refl
@@ -89,7 +89,7 @@ same_first code earlier [] true cell = by_kind cell
     by_kind : (cell : CellData) → stands_first [] true (cell_thawed code earlier cell) ≡ stands_first [] true (cell_of code cell)
     by_kind (plain.Object class words) = refl
     by_kind (plain.Class decl encl holder over) = refl
-    by_kind (plain.Block body env home receiver holder) = refl
+    by_kind (plain.Block body env receiver holder home) = refl
     by_kind (plain.Environment parent locals) = refl
     by_kind (plain.Array items) = refl
     by_kind (plain.Text bytes) = refl
@@ -101,7 +101,7 @@ same_first code earlier [] false cell = by_kind cell
     by_kind : (cell : CellData) → stands_first [] false (cell_thawed code earlier cell) ≡ stands_first [] false (cell_of code cell)
     by_kind (plain.Object class words) = refl
     by_kind (plain.Class decl encl holder over) = refl
-    by_kind (plain.Block body env home receiver holder) = refl
+    by_kind (plain.Block body env receiver holder home) = refl
     by_kind (plain.Environment parent locals) = refl
     by_kind (plain.Array items) = refl
     by_kind (plain.Text bytes) = refl
@@ -114,7 +114,7 @@ same_behind : (code : CodeProgram) (earlier : Heap) (first : List Cell) (argumen
 same_behind code earlier (one ∷ first) arguments cell = refl
 same_behind code earlier [] arguments (plain.Object class words) = refl
 same_behind code earlier [] arguments (plain.Class decl encl holder over) = refl
-same_behind code earlier [] arguments (plain.Block body env home receiver holder) = refl
+same_behind code earlier [] arguments (plain.Block body env receiver holder home) = refl
 same_behind code earlier [] arguments (plain.Environment parent locals) = refl
 same_behind code earlier [] arguments (plain.Array items) = refl
 same_behind code earlier [] arguments (plain.Text bytes) = refl

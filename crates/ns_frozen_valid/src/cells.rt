@@ -11,6 +11,7 @@ ghost use Rattle.ns_frozen_valid.specs.Cells as own;
 use ns_code::body::BodyCode;
 use ns_code::kinds::BLOCK;
 use ns_frozen::cell::CellData;
+use ns_frozen::plain::PlainValue;
 use ns_frozen_fitting::environments::fits_environment;
 use ns_frozen_seen::plain::is_nil;
 use ns_frozen_seen::seen::Seen;
@@ -41,7 +42,8 @@ pub fn is_good_cell(seen: &Seen<'_>, homes: u64, number: u128, cell: &CellData) 
             encl,
             holder,
             over,
-        } => seen.has_links(number, *decl, *over) && is_placed(seen, *decl, *encl, *holder),
+        } => seen.has_links(number, *decl, over.value())
+            && is_placed(seen, *decl, encl.value(), holder.value()),
         CellData::Block {
             body,
             env,
@@ -50,26 +52,26 @@ pub fn is_good_cell(seen: &Seen<'_>, homes: u64, number: u128, cell: &CellData) 
             holder,
         } => {
             let parts = BlockParts {
-                env: *env,
+                env: env.value(),
                 home: *home,
-                receiver: *receiver,
+                receiver: receiver.value(),
                 holder: *holder,
             };
             is_good_block(seen, homes, *body, parts)
         }
         CellData::Environment { parent, locals } => {
-            seen.is_environment_or_nil(*parent) && seen.are_live(locals.as_slice())
+            seen.is_environment_or_nil(parent.value()) && seen.are_live(locals.as_slice())
         }
         CellData::Array(items) => seen.are_live(items.as_slice()),
         CellData::Text(_) => true,
         CellData::Facet(_) => true,
-        CellData::Mirror(mirrored) => seen.is_live(*mirrored),
-        CellData::Message { sel, args } => seen.has_elements_for(*sel, *args),
+        CellData::Mirror(mirrored) => seen.is_live(mirrored.value()),
+        CellData::Message { sel, args } => seen.has_elements_for(*sel, args.value()),
     }
 }
 
 /// Whether an object is.
-fn is_good_object(seen: &Seen<'_>, number: u128, class: u32, words: &[Value]) -> bool
+fn is_good_object(seen: &Seen<'_>, number: u128, class: u32, words: &[PlainValue]) -> bool
     requires { IsSeen seen.now }
     ensures { result ≡ own.is_good_object seen.now.code.now (heap_of seen.now) number class words.now }
 {

@@ -174,7 +174,10 @@ fn is_standing(first: First, cell: &CellData) -> bool
                 holder,
                 over,
             },
-        ) => decl == *other && is_nil(*encl) && is_nil(*holder) && is_object_class(*over),
+        ) => decl == *other
+            && is_nil(encl.value())
+            && is_nil(holder.value())
+            && is_object_class(over.value()),
         _ => false,
     }
 }

@@ -11,6 +11,7 @@ use ns_base::selector::Sel;
 use ns_frozen::frame::{FrameKind, FrozenFrame};
 use ns_frozen::frozen::Frozen;
 use ns_frozen::pending::Pending;
+use ns_frozen::plain::PlainValue;
 use ns_frozen_seen::seen::Seen;
 use ns_frozen_tables::numbers::size;
 use ns_moves::site::Site;
@@ -100,7 +101,13 @@ fn is_good_pending(seen: &Seen<'_>, frames: &[FrozenFrame], pending: &Pending) -
 }
 
 /// Whether a send can be made.
-fn can_send(seen: &Seen<'_>, receiver: Value, sel: Sel, arguments: &[Value], site: Site) -> bool
+fn can_send(
+    seen: &Seen<'_>,
+    receiver: Value,
+    sel: Sel,
+    arguments: &[PlainValue],
+    site: Site,
+) -> bool
     requires { IsSeen seen.now }
     ensures { result ≡ own.can_send seen.now.code.now (heap_of seen.now) receiver sel arguments.now site }
 {
@@ -120,7 +127,7 @@ fn takes_arguments(seen: &Seen<'_>, sel: Sel, count: usize) -> bool
 }
 
 /// Whether a block can be evaluated.
-fn can_evaluate(seen: &Seen<'_>, block: Value, arguments: &[Value], site: Site) -> bool
+fn can_evaluate(seen: &Seen<'_>, block: Value, arguments: &[PlainValue], site: Site) -> bool
     requires { IsSeen seen.now }
     ensures { result ≡ own.can_evaluate seen.now.code.now (heap_of seen.now) block arguments.now site }
 {

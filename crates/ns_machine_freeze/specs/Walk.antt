@@ -17,7 +17,7 @@ cells_from (cell ∷ earlier) number = if nat_le number (heap_size earlier) then
 abbrev pub data_of : NewCell → List Value → List ℕ → CellData
 data_of (new.Object class count) words bytes = cell.Object class words
 data_of (new.Class decl base encl holder over) words bytes = cell.Class decl encl holder over
-data_of (new.Block body env home receiver holder) words bytes = cell.Block body env home receiver holder
+data_of (new.Block body env home receiver holder) words bytes = cell.Block body env receiver holder home
 data_of (new.Environment parent count) words bytes = cell.Environment parent words
 data_of (new.Array count) words bytes = cell.Array words
 data_of (new.Text count) words bytes = cell.Text bytes

@@ -9,8 +9,8 @@ use ns_base::items::Items;
 use ns_base::no_memory::NoMemory;
 use ns_base::text::Text;
 use ns_frozen::cell::CellData;
+use ns_frozen::plain::PlainValue;
 use ns_world::cell::NewCell;
-use ns_world::value::Value;
 use ns_world::world::World;
 use std::alloc::Global;
 
@@ -46,9 +46,9 @@ fn cell(alloc: Global, world: &World, at: u32) -> Result<CellData, NoMemory>
             over,
         } => Ok(CellData::Class {
             decl,
-            encl,
-            holder,
-            over,
+            encl: PlainValue::of(encl),
+            holder: PlainValue::of(holder),
+            over: PlainValue::of(over),
         }),
         NewCell::Block {
             body,
@@ -58,31 +58,39 @@ fn cell(alloc: Global, world: &World, at: u32) -> Result<CellData, NoMemory>
             holder,
         } => Ok(CellData::Block {
             body,
-            env,
+            env: PlainValue::of(env),
             home,
-            receiver,
+            receiver: PlainValue::of(receiver),
             holder,
         }),
         NewCell::Environment { parent, locals } => Ok(CellData::Environment {
-            parent,
+            parent: PlainValue::of(parent),
             locals: words_of(alloc, world, at, locals)?,
         }),
         NewCell::Array { size } => Ok(CellData::Array(words_of(alloc, world, at, size)?)),
         NewCell::Text { bytes } => Ok(CellData::Text(bytes_of(alloc, world, at, bytes)?)),
         NewCell::Facet(kind) => Ok(CellData::Facet(kind)),
-        NewCell::Mirror(mirrored) => Ok(CellData::Mirror(mirrored)),
-        NewCell::Message { sel, args } => Ok(CellData::Message { sel, args }),
+        NewCell::Mirror(mirrored) => Ok(CellData::Mirror(PlainValue::of(mirrored))),
+        NewCell::Message { sel, args } => Ok(CellData::Message {
+            sel,
+            args: PlainValue::of(args),
+        }),
     }
 }
 
 /// The words of a cell, of which there are so many.
-fn words_of(alloc: Global, world: &World, at: u32, count: u32) -> Result<Items<Value>, NoMemory>
+fn words_of(
+    alloc: Global,
+    world: &World,
+    at: u32,
+    count: u32,
+) -> Result<Items<PlainValue>, NoMemory>
     requires { count ≡ length (words_at world.now.world.cells at) }
     ensures { IfOk result (λ words. words ≡ words_at world.now.world.cells at) }
 {
     let mut words = Vec::with_capacity(alloc, count as usize)?;
     'reading: for word in 0..count {
-        words.push(world.read(at, word))?;
+        words.push(PlainValue::of(world.read(at, word)))?;
     }
     Ok(Items::from_vec(words))
 }

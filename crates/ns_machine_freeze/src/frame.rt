@@ -15,6 +15,7 @@ use ns_base::no_memory::NoMemory;
 use ns_code::kinds::{BLOCK, CLAUSE};
 use ns_code::program::CodeProgram;
 use ns_frozen::frame::{FrameKind, FrozenFrame};
+use ns_frozen::plain::plain_values;
 use ns_machine_core::places::Places;
 use ns_machine_core::state::Core;
 use ns_machine_frames::frame::{Activation, Frame, KeptSite, Leaving, LoopingFrame, RunningFrame};
@@ -56,8 +57,8 @@ fn running_of(
     ensures { IfOk result (λ frozen. frozen ≡ frame_frozen code.now waits
         (frame_shown code.now core.now.places (stood_one (RunningFrameOf frame) (take end core.now.stack.values.items)))) }
 {
-    let locals = Vec::from_slice(alloc, core.stack.between(frame.base, frame.operands))?;
-    let operands = Vec::from_slice(alloc, core.stack.between(frame.operands, end))?;
+    let locals = plain_values(alloc, core.stack.between(frame.base, frame.operands))?;
+    let operands = plain_values(alloc, core.stack.between(frame.operands, end))?;
     let activation = frame.activation;
     Ok(FrozenFrame {
         kind: kind(code, frame.leaving, activation),
@@ -66,8 +67,8 @@ fn running_of(
         holder: activation.holder,
         home: activation.home,
         env: activation.env,
-        locals: Items::from_vec(locals),
-        operands: Items::from_vec(operands),
+        locals,
+        operands,
         site: site_of(&core.places, activation.site),
     })
 }

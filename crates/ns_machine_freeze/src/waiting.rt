@@ -7,10 +7,10 @@ ghost use Rattle.ns_machine_frames.specs.View.{site_shown};
 ghost use Rattle.ns_frozen.specs.Freezing.{pending_frozen};
 
 use crate::frame::site_of;
-use ns_base::items::Items;
 use ns_base::no_memory::NoMemory;
 use ns_base::selector::Sel;
 use ns_frozen::pending::Pending;
+use ns_frozen::plain::plain_values;
 use ns_machine_core::state::Core;
 use ns_machine_frames::frame::KeptSite;
 use ns_machine_frames::registers::Registers;
@@ -31,7 +31,7 @@ pub fn sending(
     Ok(Pending::Send {
         receiver,
         sel,
-        args: Items::from_vec(Vec::from_slice(alloc, core.arguments.as_slice())?),
+        args: plain_values(alloc, core.arguments.as_slice())?,
         site: site_of(&core.places, site),
     })
 }
@@ -64,7 +64,7 @@ pub fn evaluating(
 {
     Ok(Pending::Evaluate {
         block,
-        args: Items::from_vec(Vec::from_slice(alloc, core.stack.from(at, first))?),
+        args: plain_values(alloc, core.stack.from(at, first))?,
         site: site_of(&core.places, site),
     })
 }
@@ -81,7 +81,7 @@ pub fn evaluating_kept(
 {
     Ok(Pending::Evaluate {
         block,
-        args: Items::from_vec(Vec::from_slice(alloc, core.arguments.as_slice())?),
+        args: plain_values(alloc, core.arguments.as_slice())?,
         site: site_of(&core.places, site),
     })
 }

@@ -1,5 +1,5 @@
 -- Where cells can be made one behind the other, so can those before the last.
-use Rattle.std.proofs.Common.{◌≡◌, ℕ, ◌+◌, ◌<◌, ◌≤◌, List, [], ◌∷◌, refl, ap, sym, ◌∙◌, subst, arith, length, append-nil, Option, Some, None, Bool, true, cond}
+use Rattle.std.proofs.Common.{◌≡◌, ℕ, ◌+◌, ◌<◌, ◌≤◌, List, [], ◌∷◌, refl, ap, sym, ◌∙◌, subst, arith, Option, Some, None, Bool, true, cond}
 use Rattle.std.proofs.lemmas.Bool.{le-leb}
 use Rattle.std.proofs.lemmas.Option.{same_Some}
 use Rattle.std.specs.Prelude.{Result, Ok, Err}
@@ -9,7 +9,7 @@ use Rattle.ns_world.specs.declared.cell.NewCell.TheVariants.{Mirror}
 use Rattle.ns_world.specs.declared.cell.CellLimit.{CellLimit}
 use Rattle.ns_world.specs.declared.value.Value.{Value}
 use Rattle.ns_world.specs.declared.value.Value.TheVariants.{Nil, Ref}
-use Rattle.ns_world.specs.Cell.{Cell, ObjectCell, ClassCell, BlockCell, EnvironmentCell, ArrayCell, TextCell, FacetCell, MirrorCell, MessageCell, cell_size, shape_of, filled_environment}
+use Rattle.ns_world.specs.Cell.{Cell, ObjectCell, ClassCell, BlockCell, EnvironmentCell, ArrayCell, TextCell, FacetCell, MirrorCell, MessageCell, cell_size, shape_of}
 use Rattle.ns_world.specs.Heap.{Heap, heap_size, find_cell, is_class, is_superclass, has_superclass, is_ordered, is_chain_start, superclass_of, no_class}
 use Rattle.ns_world.specs.Layout.{declaration_of, base_of, base_in, entries_of, entries_above, layout_of}
 use Rattle.ns_world.specs.Lawful.{IsLawful}
@@ -145,14 +145,3 @@ made_fits cell old new result fits makes = by_result result makes
     by_result : (r : Result ℕ CellLimit) → MakesCell old cell r new → CellIsPut cell old new
     by_result (Ok number) makes = record { world = sym (same_Some more new.world (sym test ∙ makes.0)); room = makes.2 }
     by_result (Err limit) makes = let e = makes.0 in absurd (cc (e, test))
-
--- an environment without others has the locals that are given
-pub no_others : (parent : Value) (locals : List Value) → filled_environment parent locals 0 ≡ EnvironmentCell parent locals
-no_others parent locals = ap (EnvironmentCell parent) (append-nil locals)
-
--- one that fits is made so
-pub environment_fits : (parent : Value) (locals : List Value) (old new : WorldView) (result : Result ℕ CellLimit)
-    → heap_size old.world.cells + (1 + length locals) ≤ old.world.limits.cells → MakesCell old (filled_environment parent locals 0) result new
-    → CellIsPut (EnvironmentCell parent locals) old new
-environment_fits parent locals old new result fits makes =
-    made_fits (EnvironmentCell parent locals) old new result fits (subst (λ (cell : Cell). MakesCell old cell result new) (no_others parent locals) makes)

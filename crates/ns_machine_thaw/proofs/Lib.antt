@@ -1,5 +1,6 @@
 pub mod Fitting
 pub mod Writing
+pub mod Pushed
 pub mod Onto
 pub mod Arrays
 pub mod Placed

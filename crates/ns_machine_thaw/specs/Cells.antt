@@ -3,7 +3,7 @@ use Rattle.std.specs.Prelude.{◌≡◌, ℕ, ◌+◌, ◌<◌, ◌≤◌, List,
 use Rattle.ns_code.specs.declared.program.CodeProgram.{CodeProgram}
 use Rattle.ns_world.specs.declared.value.Value.{Value}
 use Rattle.ns_world.specs.declared.value.Value.TheVariants.{Ref}
-use Rattle.ns_world.specs.Cell.{Cell, ObjectCell}
+use Rattle.ns_world.specs.Cell.{Cell, ObjectCell, EnvironmentCell, ArrayCell, open_words}
 use Rattle.ns_world.specs.Heap.{Heap, heap_size, find_cell, is_class, is_superclass, is_ordered, no_class}
 use Rattle.ns_world.specs.Layout.{declaration_of, base_of, entries_of, layout_of}
 use Rattle.ns_world.specs.World.{WorldView, SameRoom}
@@ -32,14 +32,16 @@ pub record CellIsPut (cell : Cell) (old new : WorldView) : Type 0 where
 
 -- ---- the words of the last cell
 
--- The last cell is an object of that number with so many words.
-abbrev pub EndsWithObject : ℕ → ℕ → Heap → Type 0
-EndsWithObject at count (ObjectCell class entries ∷ earlier) = (at ≡ heap_size earlier) × (length entries ≡ count)
-EndsWithObject at count heap = ⊥
+-- The last cell has that number, and so many words that may be written.
+abbrev pub EndsWith : ℕ → ℕ → Heap → Type 0
+EndsWith at count [] = ⊥
+EndsWith at count (cell ∷ earlier) = (at ≡ heap_size earlier) × (length (open_words cell) ≡ count)
 
--- an object with other words
+-- an object, an environment or an array with other words
 abbrev pub of_words : List Value → Cell → Cell
 of_words words (ObjectCell class entries) = ObjectCell class words
+of_words words (EnvironmentCell parent locals) = EnvironmentCell parent words
+of_words words (ArrayCell items) = ArrayCell words
 of_words words cell = cell
 
 -- the cells of which the last has these

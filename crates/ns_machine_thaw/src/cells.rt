@@ -8,10 +8,11 @@ ghost use Rattle.ns_world.specs.Cell.{ObjectCell, EnvironmentCell, ArrayCell, Te
 ghost use Rattle.ns_world.specs.Heap.{heap_size, is_superclass, has_superclass, no_class};
 ghost use Rattle.ns_world.specs.Layout.{entries_above, entries_of};
 ghost use Rattle.ns_world.specs.World.{SameRoom};
-ghost use Rattle.ns_machine_thaw.specs.Cells.{CellsFit, CellIsPut, StandsOver, EndsWithObject, with_words};
+ghost use Rattle.ns_machine_thaw.specs.Cells.{CellsFit, CellIsPut, StandsOver, EndsWith, with_words};
 
 use ns_code::program::CodeProgram;
 use ns_frozen::cell::CellData;
+use ns_frozen::plain::PlainValue;
 use ns_world::cell::NewCell;
 use ns_world::value::Value;
 use ns_world::world::World;
@@ -43,7 +44,14 @@ fn put_cell(world: &mut World, code: &CodeProgram, cell: &CellData)
             encl,
             holder,
             over,
-        } => put_class(world, code, *decl, *encl, *holder, *over),
+        } => put_class(
+            world,
+            code,
+            *decl,
+            encl.value(),
+            holder.value(),
+            over.value(),
+        ),
         CellData::Block {
             body,
             env,
@@ -54,24 +62,24 @@ fn put_cell(world: &mut World, code: &CodeProgram, cell: &CellData)
             world,
             NewCell::Block {
                 body: *body,
-                env: *env,
+                env: env.value(),
                 home: *home,
-                receiver: *receiver,
+                receiver: receiver.value(),
                 holder: *holder,
             },
         ),
         CellData::Environment { parent, locals } => {
-            put_environment(world, *parent, locals.as_slice())
+            put_environment(world, parent.value(), locals.as_slice())
         }
         CellData::Array(items) => put_array(world, items.as_slice()),
         CellData::Text(text) => put_text(world, text.bytes()),
         CellData::Facet(kind) => put_fresh(world, NewCell::Facet(*kind)),
-        CellData::Mirror(mirrored) => put_fresh(world, NewCell::Mirror(*mirrored)),
+        CellData::Mirror(mirrored) => put_fresh(world, NewCell::Mirror(mirrored.value())),
         CellData::Message { sel, args } => put_fresh(
             world,
             NewCell::Message {
                 sel: *sel,
-                args: *args,
+                args: args.value(),
             },
         ),
     }
@@ -138,24 +146,41 @@ fn entries(code: &CodeProgram, decl: u32) -> u32
     }
 }
 
-/// Makes an environment.
-#[tactic(auto, using(crate::proofs::Fitting::environment_fits))]
-fn put_environment(world: &mut World, parent: Value, locals: &[Value])
+/// Makes an environment and writes its locals.
+#[tactic(auto, using(crate::proofs::Fitting::made_fits))]
+fn put_environment(world: &mut World, parent: Value, locals: &[PlainValue])
     requires room { HasCellRoom world.old }
+    requires small { heap_size world.old.world.cells + (1 + length locals.now) < no_class }
     requires fits { heap_size world.old.world.cells + (1 + length locals.now) ≤ world.old.world.limits.cells }
     ensures { CellIsPut (EnvironmentCell parent locals.now) world.old world.new }
 {
-    let _number = world.make_environment(parent, locals, 0);
+    let at = world.counters().cells as u32;
+    put_fresh(
+        world,
+        NewCell::Environment {
+            parent,
+            locals: locals.len() as u32,
+        },
+    );
+    write_words(world, at, locals);
 }
 
-/// Makes an array.
+/// Makes an array and writes its elements.
 #[tactic(auto, using(crate::proofs::Fitting::made_fits))]
-fn put_array(world: &mut World, items: &[Value])
+fn put_array(world: &mut World, items: &[PlainValue])
     requires room { HasCellRoom world.old }
+    requires small { heap_size world.old.world.cells + (1 + length items.now) < no_class }
     requires fits { heap_size world.old.world.cells + (1 + length items.now) ≤ world.old.world.limits.cells }
     ensures { CellIsPut (ArrayCell items.now) world.old world.new }
 {
-    let _number = world.make_array(items);
+    let at = world.counters().cells as u32;
+    put_fresh(
+        world,
+        NewCell::Array {
+            size: items.len() as u32,
+        },
+    );
+    write_words(world, at, items);
 }
 
 /// Makes a text.
@@ -170,7 +195,7 @@ fn put_text(world: &mut World, bytes: &[u8])
 
 /// Makes an object and writes its words.
 #[tactic(auto, using(crate::proofs::Fitting::made_fits))]
-fn put_object(world: &mut World, class: u32, words: &[Value])
+fn put_object(world: &mut World, class: u32, words: &[PlainValue])
     requires room { HasCellRoom world.old }
     requires small { heap_size world.old.world.cells + (1 + length words.now) < no_class }
     requires fits { heap_size world.old.world.cells + (1 + length words.now) ≤ world.old.world.limits.cells }
@@ -187,13 +212,13 @@ fn put_object(world: &mut World, class: u32, words: &[Value])
     write_words(world, at, words);
 }
 
-/// Writes the words of an object, which is the last cell.
-fn write_words(world: &mut World, at: u32, words: &[Value])
-    requires last { EndsWithObject at (length words.now) world.old.world.cells }
+/// Writes the words of the last cell, which is an object, an environment or an array.
+fn write_words(world: &mut World, at: u32, words: &[PlainValue])
+    requires last { EndsWith at (length words.now) world.old.world.cells }
     requires small { length words.now ≤ 4294967295 }
     ensures { world.new ≡ record world.old { world = record world.old.world { cells = with_words words.now world.old.world.cells } } }
 {
     'words: for word in 0..words.len() {
-        world.write(at, word as u32, words[word]);
+        world.write(at, word as u32, words[word].value());
     }
 }

@@ -6,14 +6,15 @@ ghost use Rattle.ns_machine_frames.specs.Standing.{Runs, Loops};
 ghost use Rattle.ns_machine_frames.specs.Stack.{IsLaid, IsEntered};
 ghost use Rattle.ns_machine_thaw.specs.Frames.{HasFrameRoom, KeepsBody, StandLow, FrameIsPut, at_start};
 
+use crate::values::push_values;
 use ns_code::program::CodeProgram;
 use ns_frozen::frame::FrozenFrame;
+use ns_frozen::plain::PlainValue;
 use ns_machine_core::arriving::shape_of;
 use ns_machine_frames::frame::{Layout, LoopingFrame, RunningFrame};
 use ns_machine_frames::laws::frames_have_room;
 use ns_machine_frames::registers::Registers;
 use ns_machine_frames::stack::Stack;
-use ns_world::value::Value;
 
 /// Puts the frame of a body on the others, with its locals and its operands.
 #[tactic(auto, using(crate::proofs::Entered::enough, crate::proofs::Entered::laid_next, crate::proofs::Entered::operands_fit, crate::proofs::Entered::body_put))]
@@ -36,7 +37,7 @@ pub fn put_running(
         next: kept.next,
         ..entered
     };
-    stack.push_all(goes_on, frame.operands.as_slice())
+    push_values(stack, goes_on, frame.operands.as_slice())
 }
 
 /// Enters a body on its locals, with room for so many operands.
@@ -45,7 +46,7 @@ fn enter_on(
     stack: &mut Stack,
     at: Registers,
     kept: RunningFrame,
-    locals: &[Value],
+    locals: &[PlainValue],
     height: u32,
 ) -> Registers
     requires laid { IsLaid stack.old at }
@@ -58,7 +59,7 @@ fn enter_on(
 {
     let count = locals.len() as u32;
     stack.make_room(at, count);
-    let above = stack.push_all(at, locals);
+    let above = push_values(stack, at, locals);
     stack.enter(
         above,
         kept.leaving,

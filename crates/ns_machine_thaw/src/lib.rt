@@ -12,5 +12,6 @@ pub mod places;
 pub mod standing;
 pub mod thaw;
 pub mod thawed;
+pub mod values;
 pub mod waiting;
 pub mod world;

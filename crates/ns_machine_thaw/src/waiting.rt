@@ -7,6 +7,7 @@ ghost use Rattle.ns_machine_thaw.specs.Waiting as spec;
 ghost use Rattle.ns_machine_thaw.specs.Waiting.{arguments_of, PendingWaits, WaitsAlone};
 
 use crate::places::kept_site;
+use crate::values::set_arguments;
 use ns_frozen::pending::Pending;
 use ns_machine_core::state::{Core, Next};
 use ns_machine_frames::frame::Pending as KeptPending;
@@ -30,7 +31,7 @@ pub fn wait(core: &mut Core, at: Registers, number: u32, pending: &Pending) -> N
             args,
             ..
         } => {
-            core.arguments.set(args.as_slice());
+            set_arguments(&mut core.arguments, args.as_slice());
             core.waiting = KeptPending::Sending {
                 receiver: *receiver,
                 sel: *sel,
@@ -55,7 +56,7 @@ pub fn wait(core: &mut Core, at: Registers, number: u32, pending: &Pending) -> N
             Next::Waits(at)
         }
         Pending::Evaluate { block, args, .. } => {
-            core.arguments.set(args.as_slice());
+            set_arguments(&mut core.arguments, args.as_slice());
             core.waiting = KeptPending::EvaluatingKept {
                 block: *block,
                 site,

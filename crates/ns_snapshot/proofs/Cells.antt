@@ -17,7 +17,7 @@ cell_format_again : (x : CellData) → CellFits x → Again r.cell x (s.cell x)
 unfolding r.object r.class r.block r.environment r.message
 cell_format_again (held.Object class words) good = again_one_of _ 0 _ refl (omega arith) (again_field _ word_format class good.0 (again_field _ values_format words good.1 (again_given (held.Object class words))))
 cell_format_again (held.Class decl encl holder over) good = again_one_of _ 1 _ refl (omega arith) (again_field _ word_format decl good.0 (again_field _ value_format encl good.1 (again_field _ value_format holder good.2 (again_field _ value_format over good.3 (again_given (held.Class decl encl holder over))))))
-cell_format_again (held.Block body env home receiver holder) good = again_one_of _ 2 _ refl (omega arith) (again_field _ word_format body good.0 (again_field _ value_format env good.1 (again_field _ double_format home good.2 (again_field _ value_format receiver good.3 (again_field _ word_format holder good.4 (again_given (held.Block body env home receiver holder)))))))
+cell_format_again (held.Block body env receiver holder home) good = again_one_of _ 2 _ refl (omega arith) (again_field _ word_format body good.0 (again_field _ value_format env good.1 (again_field _ double_format home good.2 (again_field _ value_format receiver good.3 (again_field _ word_format holder good.4 (again_given (held.Block body env receiver holder home)))))))
 cell_format_again (held.Environment parent locals) good = again_one_of _ 3 _ refl (omega arith) (again_field _ value_format parent good.0 (again_field _ values_format locals good.1 (again_given (held.Environment parent locals))))
 cell_format_again (held.Array items) good = again_one_of _ 4 _ refl (omega arith) (again_one (λ x. held.Array x) values_format items good)
 cell_format_again (held.Text bytes) good = again_one_of _ 5 _ refl (omega arith) (again_one (λ x. held.Text x) text_format bytes good)
@@ -34,7 +34,7 @@ cell_format =
       (
         reads_field word_format (λ decl g0. reads_field value_format (λ encl g1. reads_field value_format (λ holder g2. reads_field value_format (λ over g3. reads_given (held.Class decl encl holder over) (refl, (g0, g1, g2, g3)))))),
         (
-          reads_field word_format (λ body g0. reads_field value_format (λ env g1. reads_field double_format (λ home g2. reads_field value_format (λ receiver g3. reads_field word_format (λ holder g4. reads_given (held.Block body env home receiver holder) (refl, (g0, g1, g2, g3, g4))))))),
+          reads_field word_format (λ body g0. reads_field value_format (λ env g1. reads_field double_format (λ home g2. reads_field value_format (λ receiver g3. reads_field word_format (λ holder g4. reads_given (held.Block body env receiver holder home) (refl, (g0, g1, g2, g3, g4))))))),
           (
             reads_field value_format (λ parent g0. reads_field values_format (λ locals g1. reads_given (held.Environment parent locals) (refl, (g0, g1)))),
             (

@@ -187,7 +187,7 @@ ending (ends.Limit kind) = byte 2 ++ byte (limit_number kind)
 abbrev pub cell : CellData → List ℕ
 cell (held.Object class words) = concat (byte 0 ∷ word class ∷ values words ∷ [])
 cell (held.Class decl encl holder over) = concat (byte 1 ∷ word decl ∷ value encl ∷ value holder ∷ value over ∷ [])
-cell (held.Block body env home receiver holder) = concat (byte 2 ∷ word body ∷ value env ∷ double home ∷ value receiver ∷ word holder ∷ [])
+cell (held.Block body env receiver holder home) = concat (byte 2 ∷ word body ∷ value env ∷ double home ∷ value receiver ∷ word holder ∷ [])
 cell (held.Environment parent locals) = concat (byte 3 ∷ value parent ∷ values locals ∷ [])
 cell (held.Array items) = byte 4 ++ values items
 cell (held.Text bytes) = byte 5 ++ text bytes

@@ -105,7 +105,7 @@ EndingFits (ends.Limit kind) = Unit {0}
 abbrev pub CellFits : CellData → Type 0
 CellFits (held.Object class words) = IsWord class × ValuesFit words
 CellFits (held.Class decl encl holder over) = IsWord decl × ValueFits encl × ValueFits holder × ValueFits over
-CellFits (held.Block body env home receiver holder) = IsWord body × ValueFits env × IsDouble home × ValueFits receiver × IsWord holder
+CellFits (held.Block body env receiver holder home) = IsWord body × ValueFits env × IsDouble home × ValueFits receiver × IsWord holder
 CellFits (held.Environment parent locals) = ValueFits parent × ValuesFit locals
 CellFits (held.Array items) = ValuesFit items
 CellFits (held.Text bytes) = IsShort bytes

@@ -133,7 +133,7 @@ block = do
   home ← double
   receiver ← value
   holder ← word
-  given (held.Block body env home receiver holder)
+  given (held.Block body env receiver holder home)
 
 -- an environment
 unfoldable pub environment : Reader CellData

@@ -5,7 +5,7 @@ ghost use Rattle.ns_image.specs.Reads.{ReadsBytes};
 ghost use Rattle.ns_snapshot.specs.Reading as spec;
 
 use crate::field::double;
-use crate::value::{value, values};
+use crate::value::{plain_value, values};
 use crate::variant::facet_kind;
 use ns_base::items::Items;
 use ns_base::text::Text;
@@ -34,7 +34,7 @@ impl Format for CellFormat {
             4 => Ok(CellData::Array(values(alloc, input)?)),
             5 => Ok(CellData::Text(text(alloc, input)?)),
             6 => Ok(CellData::Facet(facet_kind(input)?)),
-            7 => Ok(CellData::Mirror(value(input)?)),
+            7 => Ok(CellData::Mirror(plain_value(input)?)),
             8 => message(input),
             9..=255 => Err(Fault::Bad(left)),
         }
@@ -55,9 +55,9 @@ fn class(input: &mut Input<'_>) -> Result<CellData, Fault>
     ensures { ReadsBytes (spec.class input.old.rest.now) result input.new.rest.now }
 {
     let decl = input.word()?;
-    let encl = value(input)?;
-    let holder = value(input)?;
-    let over = value(input)?;
+    let encl = plain_value(input)?;
+    let holder = plain_value(input)?;
+    let over = plain_value(input)?;
     Ok(CellData::Class {
         decl,
         encl,
@@ -71,9 +71,9 @@ fn block(input: &mut Input<'_>) -> Result<CellData, Fault>
     ensures { ReadsBytes (spec.block input.old.rest.now) result input.new.rest.now }
 {
     let body = input.word()?;
-    let env = value(input)?;
+    let env = plain_value(input)?;
     let home = double(input)?;
-    let receiver = value(input)?;
+    let receiver = plain_value(input)?;
     let holder = input.word()?;
     Ok(CellData::Block {
         body,
@@ -88,7 +88,7 @@ fn block(input: &mut Input<'_>) -> Result<CellData, Fault>
 fn environment(alloc: Global, input: &mut Input<'_>) -> Result<CellData, Fault>
     ensures { ReadsBytes (spec.environment input.old.rest.now) result input.new.rest.now }
 {
-    let parent = value(input)?;
+    let parent = plain_value(input)?;
     let locals = values(alloc, input)?;
     Ok(CellData::Environment { parent, locals })
 }
@@ -98,7 +98,7 @@ fn message(input: &mut Input<'_>) -> Result<CellData, Fault>
     ensures { ReadsBytes (spec.message input.old.rest.now) result input.new.rest.now }
 {
     let sel = input.sel()?;
-    let args = value(input)?;
+    let args = plain_value(input)?;
     Ok(CellData::Message { sel, args })
 }
 

@@ -7,6 +7,7 @@ use crate::field::{counted, option};
 use crate::variant::{kernel_class, kernel_row};
 use ns_base::items::Items;
 use ns_base::place::Place;
+use ns_frozen::plain::PlainValue;
 use ns_image::fault::Fault;
 use ns_image::read::format::Format;
 use ns_image::read::input::Input;
@@ -46,11 +47,32 @@ impl Format for ValueFormat {
     }
 }
 
-/// Values behind their count.
-pub fn values(alloc: Global, input: &mut Input<'_>) -> Result<Items<Value>, Fault>
+/// A value, as plain data.
+pub fn plain_value(input: &mut Input<'_>) -> Result<PlainValue, Fault>
+    ensures { ReadsBytes (spec.value input.old.rest.now) result input.new.rest.now }
+{
+    let value = value(input)?;
+    Ok(PlainValue::of(value))
+}
+
+/// How it is read.
+pub struct PlainFormat;
+
+impl Format for PlainFormat {
+    type Value = PlainValue;
+
+    ghost reader = { λ _. spec.value };
+
+    fn read(&self, _alloc: Global, input: &mut Input<'_>) -> Result<PlainValue, Fault> {
+        plain_value(input)
+    }
+}
+
+/// Values behind their count, as plain data.
+pub fn values(alloc: Global, input: &mut Input<'_>) -> Result<Items<PlainValue>, Fault>
     ensures { ReadsBytes (spec.values input.old.rest.now) result input.new.rest.now }
 {
-    counted(alloc, input, &ValueFormat)
+    counted(alloc, input, &PlainFormat)
 }
 
 /// How a place is read.

@@ -46,7 +46,7 @@ cell_few (held.Object class words) few =
     let one : AreFew (b.word class ++ (s.values words ++ [])) = behind (b.byte 0) (b.word class ++ (s.values words ++ [])) few in
     values_few words (front (s.values words) [] (behind (b.word class) (s.values words ++ []) one))
 cell_few (held.Class decl encl holder over) few = tt
-cell_few (held.Block body env home receiver holder) few = tt
+cell_few (held.Block body env receiver holder home) few = tt
 cell_few (held.Environment parent locals) few =
     let one : AreFew (s.value parent ++ (s.values locals ++ [])) = behind (b.byte 3) (s.value parent ++ (s.values locals ++ [])) few in
     values_few locals (front (s.values locals) [] (behind (s.value parent) (s.values locals ++ []) one))
@@ -155,7 +155,7 @@ images_are_short image frozen size most below within is =
 cell_fits : (cell : CellData) → CellFits cell → CellHasRoom cell
 cell_fits (held.Object class words) fits = fits.1.0
 cell_fits (held.Class decl encl holder over) fits = tt
-cell_fits (held.Block body env home receiver holder) fits = tt
+cell_fits (held.Block body env receiver holder home) fits = tt
 cell_fits (held.Environment parent locals) fits = fits.1.0
 cell_fits (held.Array items) fits = fits.0
 cell_fits (held.Text bytes) fits = fits

@@ -38,7 +38,7 @@ some_value (v.Ref at) = omega arith
 pub some_cell : (cell : CellData) → 1 ≤ length (s.cell cell)
 some_cell (held.Object class words) = omega arith
 some_cell (held.Class decl encl holder over) = omega arith
-some_cell (held.Block body env home receiver holder) = omega arith
+some_cell (held.Block body env receiver holder home) = omega arith
 some_cell (held.Environment parent locals) = omega arith
 some_cell (held.Array items) = omega arith
 some_cell (held.Text bytes) = omega arith

@@ -20,7 +20,7 @@ Takes count before (Err e) after = before < count
 abbrev pub CellHasRoom : CellData → Type 0
 CellHasRoom (held.Object class words) = IsWord (length words)
 CellHasRoom (held.Class decl encl holder over) = Unit {0}
-CellHasRoom (held.Block body env home receiver holder) = Unit {0}
+CellHasRoom (held.Block body env receiver holder home) = Unit {0}
 CellHasRoom (held.Environment parent locals) = IsWord (length locals)
 CellHasRoom (held.Array items) = IsWord (length items)
 CellHasRoom (held.Text bytes) = IsShort bytes

@@ -13,6 +13,7 @@ use crate::room::{Room, TooLarge};
 use crate::variant::facet_number;
 use ns_base::no_memory::NoMemory;
 use ns_frozen::cell::CellData;
+use ns_frozen::plain::PlainValue;
 use ns_image_write::write::output::{put_byte, put_word};
 use ns_world::value::Value;
 
@@ -30,24 +31,24 @@ impl Part for CellData {
                 encl,
                 holder,
                 over,
-            } => measure_class(room, *encl, *holder, *over),
+            } => measure_class(room, encl.value(), holder.value(), over.value()),
             CellData::Block {
                 body: _,
                 env,
                 home: _,
                 receiver,
                 holder: _,
-            } => measure_block(room, *env, *receiver),
+            } => measure_block(room, env.value(), receiver.value()),
             CellData::Environment { parent, locals } => measure_environment(
                 room,
-                *parent,
+                parent.value(),
                 locals.as_slice(),
             ),
             CellData::Array(items) => measure_list(room, 1, items.as_slice()),
             CellData::Text(text) => measure_text(room, 1, text.bytes()),
             CellData::Facet(_) => room.take(2),
-            CellData::Mirror(mirrored) => measure_value(room, 1, *mirrored),
-            CellData::Message { sel: _, args } => measure_value(room, 5, *args),
+            CellData::Mirror(mirrored) => measure_value(room, 1, mirrored.value()),
+            CellData::Message { sel: _, args } => measure_value(room, 5, args.value()),
         }
     }
 
@@ -59,30 +60,30 @@ impl Part for CellData {
                 encl,
                 holder,
                 over,
-            } => put_class(out, *decl, *encl, *holder, *over),
+            } => put_class(out, *decl, encl.value(), holder.value(), over.value()),
             CellData::Block {
                 body,
                 env,
                 home,
                 receiver,
                 holder,
-            } => put_block(out, *body, *env, *home, *receiver, *holder),
+            } => put_block(out, *body, env.value(), *home, receiver.value(), *holder),
             CellData::Environment { parent, locals } => put_environment(
                 out,
-                *parent,
+                parent.value(),
                 locals.as_slice(),
             ),
             CellData::Array(items) => put_array(out, items.as_slice()),
             CellData::Text(text) => put_literal(out, text.bytes()),
             CellData::Facet(kind) => with_byte(out, 6, facet_number(*kind)),
-            CellData::Mirror(mirrored) => put_mirror(out, *mirrored),
-            CellData::Message { sel, args } => put_message(out, sel.0, *args),
+            CellData::Mirror(mirrored) => put_mirror(out, mirrored.value()),
+            CellData::Message { sel, args } => put_message(out, sel.0, args.value()),
         }
     }
 }
 
 /// Takes so many bytes, and those of values behind their count.
-fn measure_list(room: &mut Room, others: u64, values: &[Value]) -> Result<(), TooLarge>
+fn measure_list(room: &mut Room, others: u64, values: &[PlainValue]) -> Result<(), TooLarge>
     ensures { Takes (others + length (spec.values values.now)) room.old.left result room.new.left }
 {
     room.take(others)?;
@@ -124,7 +125,11 @@ fn measure_block(room: &mut Room, env: Value, receiver: Value) -> Result<(), Too
     receiver.measure(room)
 }
 
-fn measure_environment(room: &mut Room, parent: Value, locals: &[Value]) -> Result<(), TooLarge>
+fn measure_environment(
+    room: &mut Room,
+    parent: Value,
+    locals: &[PlainValue],
+) -> Result<(), TooLarge>
     ensures { Takes (1 + (length (spec.value parent) + length (spec.values locals.now))) room.old.left result room.new.left }
 {
     room.take(1)?;
@@ -132,7 +137,7 @@ fn measure_environment(room: &mut Room, parent: Value, locals: &[Value]) -> Resu
     measure_counted(room, locals)
 }
 
-fn put_object(out: &mut Vec<u8>, class: u32, words: &[Value]) -> Result<(), NoMemory>
+fn put_object(out: &mut Vec<u8>, class: u32, words: &[PlainValue]) -> Result<(), NoMemory>
     requires { IsWord (length words.now) }
     ensures { OnOk result (out.new.items ≡ out.old.items ++ concat (image.byte 0 ∷ image.word class ∷ spec.values words.now ∷ [])) }
 {
@@ -175,7 +180,7 @@ fn put_block(
     put_word(out, holder)
 }
 
-fn put_environment(out: &mut Vec<u8>, parent: Value, locals: &[Value]) -> Result<(), NoMemory>
+fn put_environment(out: &mut Vec<u8>, parent: Value, locals: &[PlainValue]) -> Result<(), NoMemory>
     requires { IsWord (length locals.now) }
     ensures { OnOk result (out.new.items ≡ out.old.items ++ concat (image.byte 3 ∷ spec.value parent ∷ spec.values locals.now ∷ [])) }
 {
@@ -184,7 +189,7 @@ fn put_environment(out: &mut Vec<u8>, parent: Value, locals: &[Value]) -> Result
     put_counted(out, locals)
 }
 
-fn put_array(out: &mut Vec<u8>, items: &[Value]) -> Result<(), NoMemory>
+fn put_array(out: &mut Vec<u8>, items: &[PlainValue]) -> Result<(), NoMemory>
     requires { IsWord (length items.now) }
     ensures { OnOk result (out.new.items ≡ out.old.items ++ (image.byte 4 ++ spec.values items.now)) }
 {

@@ -15,6 +15,7 @@ use crate::variant::{kind_number, limit_number};
 use ns_base::no_memory::NoMemory;
 use ns_base::selector::Sel;
 use ns_frozen::pending::Pending;
+use ns_frozen::plain::PlainValue;
 use ns_image_write::write::output::{put_byte, put_word};
 use ns_moves::site::Site;
 use ns_world::ending::{Ending, RunError};
@@ -79,7 +80,7 @@ fn measure_sent(
     room: &mut Room,
     receiver: Value,
     others: u64,
-    args: &[Value],
+    args: &[PlainValue],
     site: &Site,
 ) -> Result<(), TooLarge>
     ensures { Takes (others + (length (spec.value receiver) + (length (spec.values args.now) + length (spec.site site.now))))
@@ -104,7 +105,7 @@ fn put_send(
     out: &mut Vec<u8>,
     receiver: Value,
     sel: Sel,
-    args: &[Value],
+    args: &[PlainValue],
     site: &Site,
 ) -> Result<(), NoMemory>
     requires { IsWord (length args.now) }
@@ -138,7 +139,7 @@ fn put_perform(
 fn put_evaluate(
     out: &mut Vec<u8>,
     block: Value,
-    args: &[Value],
+    args: &[PlainValue],
     site: &Site,
 ) -> Result<(), NoMemory>
     requires { IsWord (length args.now) }

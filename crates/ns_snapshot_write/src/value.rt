@@ -9,6 +9,7 @@ use crate::room::{Room, TooLarge};
 use crate::variant::{kernel_class, row_number};
 use ns_base::no_memory::NoMemory;
 use ns_base::place::Place;
+use ns_frozen::plain::PlainValue;
 use ns_image_write::write::output::{put_byte, put_word};
 use ns_moves::site::Site;
 use ns_world::kernel::ClassName;
@@ -50,6 +51,21 @@ impl Part for Value {
             Value::Kernel(class) => with_byte(out, 5, kernel_class(class)),
             Value::Ref(at) => with_word(out, 6, at),
         }
+    }
+}
+
+/// That of the value that it stands for.
+impl Part for PlainValue {
+    ghost layout = { spec.value };
+
+    ghost has_room = { λ _. Unit {0} };
+
+    fn measure(&self, room: &mut Room) -> Result<(), TooLarge> {
+        self.value().measure(room)
+    }
+
+    fn put(&self, out: &mut Vec<u8>) -> Result<(), NoMemory> {
+        self.value().put(out)
     }
 }
 

@@ -16,7 +16,7 @@ use Rattle.ns_frozen_tables.specs.Numbers.{data_size, number_end, numbers_from, 
 pub size_thawed : (code : CodeProgram) (earlier : Heap) (one : CellData) → cell_size (cell_thawed code earlier one) ≡ data_size one
 size_thawed code earlier (cell.Object class words) = refl
 size_thawed code earlier (cell.Class decl encl holder over) = refl
-size_thawed code earlier (cell.Block body env home receiver holder) = refl
+size_thawed code earlier (cell.Block body env receiver holder home) = refl
 size_thawed code earlier (cell.Environment parent locals) = refl
 size_thawed code earlier (cell.Array items) = refl
 size_thawed code earlier (cell.Text bytes) = refl
@@ -27,7 +27,7 @@ size_thawed code earlier (cell.Message sel args) = refl
 pub frozen_thawed : (code : CodeProgram) (earlier : Heap) (one : CellData) → cell_frozen (cell_thawed code earlier one) ≡ one
 frozen_thawed code earlier (cell.Object class words) = refl
 frozen_thawed code earlier (cell.Class decl encl holder over) = refl
-frozen_thawed code earlier (cell.Block body env home receiver holder) = refl
+frozen_thawed code earlier (cell.Block body env receiver holder home) = refl
 frozen_thawed code earlier (cell.Environment parent locals) = refl
 frozen_thawed code earlier (cell.Array items) = refl
 frozen_thawed code earlier (cell.Text bytes) = refl
@@ -38,7 +38,7 @@ frozen_thawed code earlier (cell.Message sel args) = refl
 pub size_positive : (one : CellData) → 1 ≤ data_size one
 size_positive (cell.Object class words) = omega arith
 size_positive (cell.Class decl encl holder over) = omega arith
-size_positive (cell.Block body env home receiver holder) = omega arith
+size_positive (cell.Block body env receiver holder home) = omega arith
 size_positive (cell.Environment parent locals) = omega arith
 size_positive (cell.Array items) = omega arith
 size_positive (cell.Text bytes) = omega arith
