@@ -1,7 +1,8 @@
 -- Steps in eight bytes: what a packed step stands for, over the tables that hold what doesn't fit into it.
-use Rattle.std.specs.Prelude.{◌≡◌, ◌<◌, ℕ, [], length, map, Option, Some, None}
+use Rattle.std.specs.Prelude.{◌≡◌, ◌<◌, ℕ, List, [], length, map, Option, Some, None}
 use Rattle.std.specs.List.{slice_index_or}
 use Rattle.ns_machine_plan.specs.declared.kept_step.KeptStep.{KeptStep}
+use Rattle.ns_machine_plan.specs.declared.kept_step.KeptSteps.{KeptSteps}
 use Rattle.ns_machine_plan.specs.declared.packed.Packed.{Packed}
 use Rattle.ns_machine_plan.specs.declared.packed.Packed.TheVariants as packed
 use Rattle.ns_machine_plan.specs.declared.packed.ValueSend.{ValueSend}
@@ -73,6 +74,10 @@ unpacked tables (packed.JumpTrue target) = JumpTrue target
 -- the step that a kept one stands for
 abbrev pub step_in : KeptStep → Step
 step_in kept = unpacked kept.tables.now kept.packed.now
+
+-- the steps that kept ones stand for
+abbrev pub steps_in : KeptSteps → List Step
+steps_in kept = map (unpacked kept.tables.now) kept.packed.now
 
 -- the packed step of a send to a value of that number, by what its selector spells
 abbrev pub packed_send : ℕ → Option SpelledRow → Packed

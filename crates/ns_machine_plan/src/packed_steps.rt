@@ -1,11 +1,9 @@
 //! A list of steps that is kept packed.
 
-ghost use Rattle.std.specs.Prelude.{◌≡◌, ◌+◌, ◌<◌, [], ◌∷◌, ◌++◌, length, OnOk, OnErr};
-ghost use Rattle.std.specs.List.{slice_index_or};
-ghost use Rattle.ns_machine_plan.specs.declared.step.Step.TheVariants.{PushNil};
-ghost use Rattle.ns_machine_plan.specs.Packed.{EntryIsThere, step_in};
+ghost use Rattle.std.specs.Prelude.{◌≡◌, ◌≤◌, [], ◌∷◌, ◌++◌, length, drop, All, OnOk, OnErr};
+ghost use Rattle.ns_machine_plan.specs.Packed.{EntryIsThere, steps_in};
 
-use crate::kept_step::KeptStep;
+use crate::kept_step::KeptSteps;
 use crate::packed::Packed;
 use crate::step::Step;
 use crate::tables::Tables;
@@ -60,15 +58,17 @@ impl PackedSteps {
         Ok(())
     }
 
-    /// The step so many behind an entry.
+    /// Those from an entry on, as they are kept.
     #[inline(always)]
-    pub fn at(&self, entry: usize, next: u32) -> KeptStep<'_>
-        requires { entry + next < length self.now }
-        ensures there { EntryIsThere result.tables.now result.packed.now }
-        ensures step { step_in result ≡ slice_index_or self.now (entry + next) PushNil }
+    pub fn from(&self, entry: usize) -> KeptSteps<'_>
+        requires { entry ≤ length self.now }
+        ensures there { All (EntryIsThere result.tables.now) result.packed.now }
+        ensures steps { steps_in result ≡ drop entry self.now }
     {
-        KeptStep {
-            packed: &self.packed.as_slice()[entry + next as usize],
+        let (before, behind) = self.packed.as_slice().split_at(entry);
+        let _before = before;
+        KeptSteps {
+            packed: behind,
             tables: &self.tables,
         }
     }

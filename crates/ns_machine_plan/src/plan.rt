@@ -3,13 +3,12 @@
 ghost use Rattle.std.specs.Prelude.{◌≡◌, ◌<◌, length, IfOk};
 ghost use Rattle.ns_code.specs.declared.program.CodeProgram.{CodeProgram};
 ghost use Rattle.ns_code.specs.Selector.{selector_arity, own_number};
-ghost use Rattle.ns_machine_plan.specs.Plan.{IsPlanOf, HasStep, IsStepAt};
-ghost use Rattle.ns_machine_plan.specs.Packed.{EntryIsThere, step_in};
-ghost use Rattle.ns_machine_plan.specs.Rows.{entry_of, IsRowOf};
+ghost use Rattle.ns_machine_plan.specs.Plan.{IsPlanOf, HasStep, IsStepAt, AreStepsOf};
+ghost use Rattle.ns_machine_plan.specs.Rows.{IsRowOf};
 ghost use Rattle.ns_machine_plan.specs.Steps.{places_of};
 ghost use Rattle.ns_moves.specs.Bodies.{greatest_of};
 
-use crate::kept_step::{KeptStep, step_in};
+use crate::kept_step::{KeptSteps, kept_at, step_in};
 use crate::making::Draft;
 use crate::members::Privates;
 use crate::packed_steps::PackedSteps;
@@ -79,22 +78,17 @@ impl Plan {
         requires there { HasStep code.now body next }
         ensures { IsStepAt code.now body next result }
     {
-        let entry = self.row(code, body).entry;
-        step_in(self.kept_from(code, body, entry, next))
+        step_in(kept_at(self.steps_of(code, body), next))
     }
 
-    /// The same as it is kept, from where the steps of the body begin.
+    /// The steps of a body as they are kept.
     #[inline(always)]
-    pub fn kept_from(&self, code: &CodeProgram, body: u32, entry: usize, next: u32) -> KeptStep<'_>
+    pub fn steps_of(&self, code: &CodeProgram, body: u32) -> KeptSteps<'_>
         requires plan { IsPlanOf code.now self.now }
-        requires there { HasStep code.now body next }
-        requires entry { entry ≡ entry_of code.now body }
-        ensures there { EntryIsThere result.tables.now result.packed.now }
-        ensures step { IsStepAt code.now body next (step_in result) }
+        requires there { body < length code.now.bodies }
+        ensures { AreStepsOf code.now body result }
     {
-        let _code = code;
-        let _body = body;
-        self.steps.at(entry, next)
+        self.steps.from(self.row(code, body).entry)
     }
 
     /// The places of the code, in its order. A step's place has its number here.

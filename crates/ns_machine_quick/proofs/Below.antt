@@ -75,7 +75,7 @@ module _ (code : CodeProgram) (core : Core) (at : Registers) (send : ValueSend) 
 -- ---- after a lookup
 
 module _ (code : CodeProgram) (core : Core) (at : Registers) (send : ValueSend) (run : Run) (rest : looked core run) where
-  same_sent : sent_below (record core { run = run }) at send ≡ sent_below core at send
+  pub same_sent : sent_below (record core { run = run }) at send ≡ sent_below core at send
   same_sent = ap (λ (r : Run). sent_by at send (class_name_of r.world.world.cells (receiver_below core at send.argc))) rest
 
   -- Where a send leads after its lookup, it leads.

@@ -11,3 +11,5 @@ pub mod IntegerSends
 pub mod ArraySends
 pub mod Privately
 pub mod BooleanSends
+pub mod Heads
+pub mod Evaluating

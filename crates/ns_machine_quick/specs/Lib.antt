@@ -5,3 +5,5 @@ pub mod Booleans
 pub mod Looping
 pub mod Opening
 pub mod Rows
+pub mod Blocks
+pub mod Values

@@ -15,10 +15,11 @@ ghost use Rattle.ns_machine_sends.specs.Operands.{SendsOperands};
 ghost use Rattle.ns_machine_quick.specs.Below.{receiver_below, BelowLeads, CanSendBelow, FindsBelow};
 ghost use Rattle.ns_machine_quick.specs.Given.{ToTopLeads};
 
+use crate::blocks::is_block;
 use crate::looping::{loops, send_looping};
 use crate::objects::{class_of_object, found_in};
 use crate::opening::send_method;
-use crate::receiving::{receiver_below, sent_below};
+use crate::receiving::{named, receiver_below, sent_below};
 use crate::rows::{send_comparison, send_row};
 use crate::slots::{send_getter, send_setter};
 use ns_code::program::CodeProgram;
@@ -28,6 +29,7 @@ use ns_machine_core::state::Core;
 use ns_machine_frames::laws::operands_are_taken;
 use ns_machine_frames::registers::Registers;
 use ns_machine_plan::packed::ValueSend;
+use ns_moves::answer_laws::live_values_are_there;
 use ns_moves::answering::found_of;
 
 /// Sends to a value, from its own start or from inside.
@@ -102,7 +104,8 @@ fn send_to_other(code: &CodeProgram, core: &mut Core, at: Registers, send: &Valu
     }
 }
 
-/// The same in code of its own. The registers are handed over one by one, so that they needn't stand in memory before any step.
+/// The same in code of its own, where it is no Block: sends to those aren't done here. The registers are handed over one by one, so that
+/// they needn't stand in memory before any step.
 #[inline(never)]
 fn other_apart(
     code: &CodeProgram,
@@ -115,8 +118,12 @@ fn other_apart(
     requires { CanSendBelow code.now core.old (record { next = next; top = top; base = base }) send.now }
     ensures { BelowLeads code.now core.old (record { next = next; top = top; base = base }) send.now core.new result }
 {
+    live_values_are_there();
     let at = Registers { next, top, base };
     let receiver = receiver_below(&core.stack, at, send.argc);
+    if is_block(&core.run.world, receiver) {
+        return Led::Nowhere;
+    }
     let found = found_of(&mut core.run, code, receiver, send.sel, send.kind);
     do_found(code, core, at, send, found)
 }
@@ -216,7 +223,8 @@ fn method_apart(
 {
     let at = Registers { next, top, base };
     let receiver = receiver_below(&core.stack, at, send.argc);
-    let sent = sent_below(code, core, at, send);
+    let below = sent_below(code, core, at, send);
+    let sent = named(&core.run.world, code, below, receiver);
     send_method(code, core, at, sent, receiver, send.kind, body, holder)
 }
 

@@ -5,6 +5,7 @@
 #![tactic(auto)]
 
 pub mod arrays;
+mod blocks;
 pub mod booleans;
 pub mod giving;
 pub mod integers;
@@ -15,3 +16,4 @@ pub mod private;
 mod receiving;
 mod rows;
 mod slots;
+pub mod values;

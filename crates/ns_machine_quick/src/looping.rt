@@ -12,6 +12,7 @@ ghost use Rattle.ns_machine_quick.specs.Looping.{BeginsOrNothing, CanLoop, loops
 ghost use Rattle.ns_machine_quick.specs.Opening.{FindsKernel};
 ghost use Rattle.ns_machine_quick.specs.Rows.{FindsRow};
 
+use crate::blocks::has_arguments;
 use ns_code::program::CodeProgram;
 use ns_find::found::Sending;
 use ns_kdata::arguments::argument;
@@ -20,7 +21,7 @@ use ns_machine_frames::frame::LoopingFrame;
 use ns_machine_frames::registers::Registers;
 use ns_machine_sends::sent::Sent;
 use ns_moves::answer_laws::{a_send_is_its_step_and_its_answer, live_values_are_there};
-use ns_moves::begin::{beginning, has_arguments};
+use ns_moves::begin::beginning;
 use ns_world::kernel_parts::KMethod;
 use ns_world::kernel_row::Row;
 use ns_world::kernel_table::row_of;

@@ -33,7 +33,7 @@ pub fn class_of_object(world: &World, code: &CodeProgram, value: Value) -> Optio
     }
 }
 
-/// The class of a receiver, by which the site of its send names it. Of an object it is known by two words.
+/// The class of a receiver, by which the site of its send names it: of an object by two words, and of any other value in code of its own.
 #[inline(always)]
 pub fn name_of_class(world: &World, code: &CodeProgram, receiver: Value) -> ClassName
     requires lawful { IsLawful world.now.world code.now }
@@ -43,7 +43,28 @@ pub fn name_of_class(world: &World, code: &CodeProgram, receiver: Value) -> Clas
     lookups_can_start();
     match class_of_object(world, code, receiver) {
         Some(class) => world.class_name(Start::Instance(class)),
-        None => class_of(world, code, receiver),
+        None => name_apart(world, code, anew(receiver)),
+    }
+}
+
+/// The class of any receiver.
+#[inline(never)]
+fn name_apart(world: &World, code: &CodeProgram, receiver: Value) -> ClassName
+    requires lawful { IsLawful world.now.world code.now }
+    requires live { IsLiveValue world.now.world.cells code.now receiver }
+    ensures { result ≡ class_name_of world.now.world.cells receiver }
+{
+    class_of(world, code, receiver)
+}
+
+/// The same value, written to memory where a call asks for it there: so it needn't stand there on a way that makes no such call.
+#[inline(always)]
+fn anew(value: Value) -> Value
+    ensures { result ≡ value }
+{
+    match value {
+        Value::Ref(at) => Value::Ref(at),
+        other => other,
     }
 }
 

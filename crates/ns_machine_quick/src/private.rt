@@ -19,6 +19,7 @@ ghost use Rattle.ns_machine_sends.specs.Sending.{CanSend};
 ghost use Rattle.ns_machine_quick.specs.Opening.{FindsAround, AroundOrNot, AroundCharges, AroundLeads, IsMemberAbove, IsMemberAt};
 
 use crate::opening::begin;
+use crate::receiving::named;
 use crate::slots::{get, set};
 use ns_base::selector::Sel;
 use ns_classes::layout::word;
@@ -106,7 +107,7 @@ fn send_around(
         around.holder,
         member,
     ) {
-        Found::Method { body, holder } => led_on(begin_around(
+        Found::Method { body, holder } => led_on(enter_around(
             code, core, at, sent, running, level, receiver, body, holder,
         )),
         Found::Getter { holder, word } => led_charged(get_around(
@@ -168,7 +169,31 @@ fn found_with(world: &World, code: &CodeProgram, holder: u32, member: Member) ->
     }
 }
 
-/// Begins the method that a private send has found, where a step is left and the limits leave room for its body.
+/// Begins the method that a private send has found, with the receiver's class named for its frame.
+#[inline(always)]
+fn enter_around(
+    code: &CodeProgram,
+    core: &mut Core,
+    at: Registers,
+    sent: Sent,
+    running: Running,
+    level: u8,
+    receiver: Value,
+    body: u32,
+    holder: u32,
+) -> Option<Registers>
+    requires can { CanSend code.now core.old at sent receiver }
+    requires receiver { receiver ≡ receiver_of core.old.run.world.world.cells (code_of running) (ToPrivate level) }
+    requires runs { FitsActivation core.old.run.world.world.cells code.now (code_of running) }
+    requires level { IsSome (declaration_at code.now running.body level) }
+    requires finds { FindsAround code.now core.old running level sent (found.Method body holder) }
+    ensures { AroundOrNot code.now core.old at sent running level core.new result }
+{
+    let anew = named(&core.run.world, code, sent, receiver);
+    begin_around(code, core, at, anew, running, level, receiver, body, holder)
+}
+
+/// The same, where its site is made: where a step is left and the limits leave room for its body.
 #[inline(always)]
 fn begin_around(
     code: &CodeProgram,

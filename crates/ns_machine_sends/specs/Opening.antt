@@ -1,5 +1,5 @@
 -- Bodies that are opened where the limits have room for them.
-use Rattle.std.specs.Prelude.{◌≡◌, ℕ, ◌+◌, ◌-◌, ◌<◌, ◌≤◌, List, [], ◌++◌, replicate, Some, if◌then◌else◌}
+use Rattle.std.specs.Prelude.{◌≡◌, ℕ, ◌+◌, ◌-◌, ◌<◌, ◌≤◌, List, [], ◌++◌, replicate, Some, true, if◌then◌else◌}
 use Rattle.ns_code.specs.declared.program.CodeProgram.{CodeProgram}
 use Rattle.ns_world.specs.declared.value.Value.{Value}
 use Rattle.ns_world.specs.declared.value.Value.TheVariants.{Nil}
@@ -18,10 +18,10 @@ locals_in shape arguments = arguments ++ replicate (shape.locals - shape.params)
 abbrev pub CellsFit : World → BodyShape → ℕ → Type 0
 CellsFit world shape count = heap_size world.cells + (1 + (count + (shape.locals - shape.params))) ≤ world.limits.cells
 
--- The limits of a world leave room for the frame of a body of that shape with so many arguments, and for its environment.
+-- The limits of a world leave room for the frame of a body of that shape with so many arguments, and for its environment, if it has one.
 pub record HasRoomFor (world : World) (shape : BodyShape) (count : ℕ) : Type 0 where
   pub depth : world.depth < world.limits.depth
-  pub cells : CellsFit world shape count
+  pub cells : shape.environment ≡ true → CellsFit world shape count
 
 -- A body of that shape with that environment around it, and with these arguments, is opened on from one world to another: in that
 -- environment, which is its own if it has one.

@@ -1,10 +1,11 @@
 //! Blocks that are entered at once, as if their evaluation waited: registers alone come back.
 
-ghost use Rattle.std.specs.Prelude.{◌≡◌, ◌<◌, length, IsSome};
+ghost use Rattle.std.specs.Prelude.{◌≡◌, ◌-◌, ◌<◌, length, IsSome};
 ghost use Rattle.ns_facets.specs.declared.row.Grants.{Grants};
 ghost use Rattle.ns_world.specs.declared.value.Value.TheVariants.{Ref};
 ghost use Rattle.ns_world.specs.Blocks.{around};
 ghost use Rattle.ns_world.specs.Heap.{find_cell, shape_at};
+ghost use Rattle.ns_machine_core.specs.Arriving.{shape_of};
 ghost use Rattle.ns_machine_sends.specs.Going.{arguments_in, IsLeft};
 ghost use Rattle.ns_machine_sends.specs.Blocks.{EntersOrNot, IsBlockAt, MovesOrNot, block_of};
 ghost use Rattle.ns_machine_sends.specs.Waiting.{BlockWaits, IsWaiting, with_block};
@@ -15,6 +16,7 @@ use crate::sent::Sent;
 use ns_code::program::CodeProgram;
 use ns_machine_core::arriving::shape_of;
 use ns_machine_core::state::Core;
+use ns_machine_frames::calls::BodyShape;
 use ns_machine_frames::registers::Registers;
 use ns_moves::control::Exit;
 use ns_moves::laws::{
@@ -38,6 +40,45 @@ pub fn enter_at_once(
     requires waits { (grants : Grants) × BlockWaits code.now grants (with_block sent (Ref cell) core.old) at sent (Ref cell) }
     requires place { sent.floor < length core.old.stack.values.items }
     ensures { MovesOrNot code.now core.old at sent (Ref cell) core.new result }
+{
+    match block_at(&core.run.world, cell) {
+        Some(running) => begin_block(code, core, at, sent, cell, running),
+        None => None,
+    }
+}
+
+/// Enters a block that waits, with its arguments where they stand, in the same cases.
+#[inline(always)]
+pub(crate) fn enter_quickly(
+    code: &CodeProgram,
+    core: &mut Core,
+    at: Registers,
+    sent: Sent,
+    block: Value,
+) -> Option<Registers>
+    requires left { IsLeft code.now core.old at sent }
+    requires is { IsWaiting code.now core.old (arguments_in core.old at sent) block }
+    ensures { EntersOrNot code.now core.old at sent block core.new result }
+{
+    match block {
+        Value::Ref(cell) => enter_cell(code, core, at, sent, cell),
+        _ => None,
+    }
+}
+
+/// The same of the block of that cell.
+#[inline(always)]
+#[tactic(auto, using(crate::proofs::AtOnce::cell_there))]
+fn enter_cell(
+    code: &CodeProgram,
+    core: &mut Core,
+    at: Registers,
+    sent: Sent,
+    cell: u32,
+) -> Option<Registers>
+    requires left { IsLeft code.now core.old at sent }
+    requires is { IsWaiting code.now core.old (arguments_in core.old at sent) (Ref cell) }
+    ensures { EntersOrNot code.now core.old at sent (Ref cell) core.new result }
 {
     match block_at(&core.run.world, cell) {
         Some(running) => begin_block(code, core, at, sent, cell, running),
@@ -74,9 +115,8 @@ fn around(env: Option<u32>) -> Value
     }
 }
 
-/// Enters the block of that cell, by what it runs in.
+/// Enters the block of that cell, by what it runs in, in code of its own for bodies with an environment and for those without.
 #[inline(always)]
-#[tactic(auto, using(crate::proofs::Stepped::left_in))]
 fn begin_block(
     code: &CodeProgram,
     core: &mut Core,
@@ -90,17 +130,69 @@ fn begin_block(
     requires block { shape_at core.old.run.world.world.cells cell ≡ block_of running }
     ensures { EntersOrNot code.now core.old at sent (Ref cell) core.new result }
 {
+    let shape = shape_of(code, running.body);
+    if at.top - sent.first != shape.params {
+        return None;
+    }
+    if shape.environment {
+        return begin_shaped(
+            code,
+            core,
+            at,
+            sent,
+            cell,
+            running,
+            with_environment(shape, true),
+        );
+    }
+    begin_shaped(
+        code,
+        core,
+        at,
+        sent,
+        cell,
+        running,
+        with_environment(shape, false),
+    )
+}
+
+/// The shape itself, of which it is known whether its body has an environment.
+#[inline(always)]
+fn with_environment(shape: BodyShape, environment: bool) -> BodyShape
+    requires { shape.environment ≡ environment }
+    ensures { result ≡ shape }
+{
+    BodyShape {
+        environment,
+        ..shape
+    }
+}
+
+/// The same by the shape of its body, which takes so many arguments.
+#[inline(always)]
+#[tactic(auto, using(crate::proofs::Stepped::left_in))]
+fn begin_shaped(
+    code: &CodeProgram,
+    core: &mut Core,
+    at: Registers,
+    sent: Sent,
+    cell: u32,
+    running: Running,
+    shape: BodyShape,
+) -> Option<Registers>
+    requires left { IsLeft code.now core.old at sent }
+    requires is { IsWaiting code.now core.old (arguments_in core.old at sent) (Ref cell) }
+    requires block { shape_at core.old.run.world.world.cells cell ≡ block_of running }
+    requires shape { shape ≡ shape_of code.now running.body }
+    requires many { at.top - sent.first ≡ shape.params }
+    ensures { EntersOrNot code.now core.old at sent (Ref cell) core.new result }
+{
     sends_keep_lawful();
     what_is_handed_on_fits();
     actions_spend_exactly();
     sites_stay();
     let _cell = cell;
-    let shape = shape_of(code, running.body);
-    let count = at.top - sent.first;
-    if count != shape.params {
-        return None;
-    }
-    if !has_room(&core.run.world, shape, count) {
+    if !has_room(&core.run.world, shape, at.top - sent.first) {
         return None;
     }
     let arguments = core.stack.from(at, sent.first);

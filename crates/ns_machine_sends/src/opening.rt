@@ -1,6 +1,6 @@
 //! Bodies that are opened where the limits have room for them: their frame is charged, and their environment is made.
 
-ghost use Rattle.std.specs.Prelude.{◌≡◌, ◌<◌, length, Decides};
+ghost use Rattle.std.specs.Prelude.{◌≡◌, ◌<◌, length, true, Decides};
 ghost use Rattle.ns_moves.specs.declared.control.Exit.TheVariants as exit;
 ghost use Rattle.ns_moves.specs.declared.control.Given.TheVariants as given;
 ghost use Rattle.ns_moves.specs.declared.control.Reached.TheVariants as reached;
@@ -25,10 +25,22 @@ use ns_world::world::World;
 pub fn has_room(world: &World, shape: BodyShape, count: u32) -> bool
     ensures { Decides result (HasRoomFor world.now.world shape count) }
 {
-    let used = world.counters();
-    let limits = world.limits();
+    if world.limits().depth <= world.counters().depth {
+        return false;
+    }
+    if !shape.environment {
+        return true;
+    }
+    cells_fit(world, shape, count)
+}
+
+/// Whether the limit on cells leaves room for the environment of a body of that shape with so many arguments.
+#[inline(always)]
+fn cells_fit(world: &World, shape: BodyShape, count: u32) -> bool
+    ensures { Decides result (CellsFit world.now.world shape count) }
+{
     let cells = 1 + u64::from(count) + u64::from(shape.locals.saturating_sub(shape.params));
-    used.depth < limits.depth && cells <= limits.cells.saturating_sub(used.cells)
+    cells <= world.limits().cells.saturating_sub(world.counters().cells)
 }
 
 /// Opens a method for whose frame and environment there is room: it has begun then.
@@ -121,7 +133,7 @@ fn open_body(world: &mut World, shape: BodyShape, around: Value, arguments: &[Va
 #[tactic(auto, using(crate::specs::laws::Opened::opens_bare, crate::specs::laws::Opened::opens_own, crate::specs::laws::Opened::own_fits))]
 fn environment_for(world: &mut World, shape: BodyShape, around: Value, arguments: &[Value]) -> Value
     requires cells { HasCellRoom world.old }
-    requires room { CellsFit world.old.world shape (length arguments.now) }
+    requires room { shape.environment ≡ true → CellsFit world.old.world shape (length arguments.now) }
     ensures opens { OpensBody shape around arguments.now world.old.world result world.new.world }
     ensures rest { SameRest world.old world.new }
 {

@@ -10,6 +10,7 @@ ghost use Rattle.ns_machine_sends.specs.Going.{arguments_in, control_at, Control
 ghost use Rattle.ns_machine_sends.specs.Waiting.{BlockWaits, BlockWaitsKept, EntersOrEnds, HasMadePlace, IsWaiting, evaluated_with, with_block};
 
 use crate::arriving::arrive_kept;
+use crate::blocks::enter_quickly;
 use crate::ending::{fail, refuse};
 use crate::entering::enter_reached;
 use crate::sent::Sent;
@@ -69,10 +70,24 @@ pub fn evaluate_kept(
     enter_block_kept(code, core, at, sent, block)
 }
 
-/// Checks the arguments of a block, charges its step and its frame, and goes where that leads.
+/// Enters a block at once, or goes where its evaluation leads.
 #[inline(always)]
-#[tactic(auto, using(crate::proofs::Evaluated::block_there, crate::proofs::Stepped::left_in, crate::proofs::Leads::plain_given))]
 fn enter_block(code: &CodeProgram, core: &mut Core, at: Registers, sent: Sent, block: Value) -> Next
+    requires left { IsLeft code.now core.old at sent }
+    requires is { IsWaiting code.now core.old (arguments_in core.old at sent) block }
+    ensures { Leads code.now core.old at sent.floor (evaluated_with code.now core.old sent
+        (arguments_in core.old at sent) block) core.new result }
+{
+    match enter_quickly(code, core, at, sent, block) {
+        Some(to) => Next::On(to),
+        None => evaluate_in(code, core, at, sent, block),
+    }
+}
+
+/// Checks the arguments of a block, charges its step and its frame, and goes where that leads.
+#[inline(never)]
+#[tactic(auto, using(crate::proofs::Evaluated::block_there, crate::proofs::Stepped::left_in, crate::proofs::Leads::plain_given))]
+fn evaluate_in(code: &CodeProgram, core: &mut Core, at: Registers, sent: Sent, block: Value) -> Next
     requires left { IsLeft code.now core.old at sent }
     requires is { IsWaiting code.now core.old (arguments_in core.old at sent) block }
     ensures { Leads code.now core.old at sent.floor (evaluated_with code.now core.old sent

@@ -136,3 +136,7 @@ is_ahead code plan core at body step prepared has there is = record {
   is = is;
   left = shown_here code plan core.places body at.next step prepared is;
 }
+
+-- The registers behind a step, taken back, are those before it.
+pub stepped_back : (at : Registers) → record at { next = at.next + 1 - 1 } ≡ at
+stepped_back at = let same : at.next + 1 - 1 ≡ at.next = omega arith in ap (λ (n : ℕ). record at { next = n }) same

@@ -16,12 +16,14 @@ use Rattle.ns_machine_plan.specs.declared.step.Step.{Step}
 use Rattle.ns_machine_plan.specs.declared.tables.Tables.{Tables}
 use Rattle.ns_machine_core.specs.declared.led.Led.{Led}
 use Rattle.ns_machine_core.specs.declared.state.Core.{Core}
+use Rattle.ns_machine_core.specs.declared.state.Next.{Next}
 use Rattle.ns_machine_core.specs.Shown.{progress_in}
 use Rattle.ns_machine_core.specs.Doing.{Finds, CanDo}
 use Rattle.ns_machine_core.specs.Tried.{LeadsOrChangesNothing}
 use Rattle.ns_machine_plan.specs.Packed.{unpacked, send_at, value_send, SendIsAt}
 use Rattle.ns_machine_plan.specs.Spelled.{spelled_by}
 use Rattle.ns_machine_plan.specs.Steps.{HasItsMember, instr_of, place_of, send_instr}
+use Rattle.ns_machine_quick.specs.Values.{DoesOrNot}
 use Rattle.ns_machine_turns.specs.Above.{HasMemberAbove}
 
 -- A body runs, and the step has its member there.
@@ -69,3 +71,9 @@ module _ (code : CodeProgram) (core : Core) (at : Registers) (tables : Tables) (
       → LeadsOrChangesNothing code (instr_of (unpacked tables packed)) (place_of core.places (unpacked tables packed)) core at new led
   send_leads new led leads =
       subst (λ (step : Step). LeadsOrChangesNothing code (instr_of step) (place_of core.places step) core at new led) (sym send_is) leads
+
+  -- So it goes where its step does.
+  pub send_goes : (new : Core) (done : Option Next) → DoesOrNot code (send_instr send.kind send.sel send.argc) (slice_get core.places send.place) core at new done
+      → DoesOrNot code (instr_of (unpacked tables packed)) (place_of core.places (unpacked tables packed)) core at new done
+  send_goes new done goes =
+      subst (λ (step : Step). DoesOrNot code (instr_of step) (place_of core.places step) core at new done) (sym send_is) goes

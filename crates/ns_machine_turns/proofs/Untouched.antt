@@ -11,7 +11,8 @@ use Rattle.ns_machine_core.specs.declared.own.OwnSends.{OwnSends}
 use Rattle.ns_machine_core.specs.declared.state.Core.{Core}
 use Rattle.ns_machine_core.specs.declared.state.Next.{Next}
 use Rattle.ns_machine_core.specs.declared.state.Next.TheVariants.{On}
-use Rattle.ns_machine_core.specs.Ready.{MachineIsReady}
+use Rattle.ns_machine_core.specs.Doing.{IsRunning}
+use Rattle.ns_machine_core.specs.Ready.{MachineIsReady, MakesMove}
 use Rattle.ns_machine_core.specs.Shown.{shown}
 use Rattle.ns_machine_core.specs.Tried.{OnlyLookupsChanged}
 use Rattle.ns_moves.specs.Turn.{is_still}
@@ -59,6 +60,36 @@ module _ (code : CodeProgram) (core : Core) (at : Registers) (memo : List (Optio
     onward = along.onward;
     lower = along.lower;
   }
+
+  memo_moves : (new : Core) (next : Next) → MakesMove code (with_memo core memo) (On at) new next → MakesMove code core (On at) new next
+  memo_moves new next moved = record {
+    state = moved.state;
+    stand = moved.stand;
+    stays = record {
+      world = record { limits = moved.stays.world.limits; room = moved.stays.world.room };
+      values = moved.stays.values;
+      frames = moved.stays.frames;
+      places = moved.stays.places;
+      arguments = moved.stays.arguments;
+    };
+    kept = moved.kept;
+  }
+
+-- Such a machine runs by the plan,
+pub untouched_runs : (code : CodeProgram) (plan : Plan) (sends : OwnSends) (now new : Core) (at : Registers)
+    → RunsBy code plan sends now (On at) → OnlyLookupsChanged code now new → RunsBy code plan sends new (On at)
+untouched_runs code plan sends now new at runs is =
+    subst (λ (core : Core). RunsBy code plan sends core (On at)) (sym is.same) (memo_runs code now at new.run.memo is.kept plan sends runs)
+
+pub untouched_running : (code : CodeProgram) (now new : Core) → IsRunning now.stack.frames.items → OnlyLookupsChanged code now new
+    → IsRunning new.stack.frames.items
+untouched_running code now new running is = subst (λ (core : Core). IsRunning core.stack.frames.items) (sym is.same) running
+
+-- and a move of it is one of the machine before.
+pub untouched_moves : (code : CodeProgram) (now mid new : Core) (at : Registers) (next : Next) → OnlyLookupsChanged code now mid
+    → MakesMove code mid (On at) new next → MakesMove code now (On at) new next
+untouched_moves code now mid new at next is moved =
+    memo_moves code now at mid.run.memo is.kept new next (subst (λ (core : Core). MakesMove code core (On at) new next) is.same moved)
 
 -- Moves that have led to such a machine have led on to it.
 pub untouched_along : (code : CodeProgram) (plan : Plan) (sends : OwnSends) (left : ℕ) (old : Core) (from : Next) (now new : Core) (at : Registers)

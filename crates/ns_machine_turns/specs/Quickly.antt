@@ -1,10 +1,11 @@
 -- A move by the quick way.
-use Rattle.std.specs.Prelude.{ℕ}
+use Rattle.std.specs.Prelude.{ℕ, Option, Some, None}
 use Rattle.ns_code.specs.declared.program.CodeProgram.{CodeProgram}
 use Rattle.ns_machine_frames.specs.declared.registers.Registers.{Registers}
 use Rattle.ns_machine_core.specs.declared.led.Led.{Led}
 use Rattle.ns_machine_core.specs.declared.led.Led.TheVariants.{Straight, Charged, On as OnTop, Answered, Nowhere}
 use Rattle.ns_machine_core.specs.declared.state.Core.{Core}
+use Rattle.ns_machine_core.specs.declared.state.Next.{Next}
 use Rattle.ns_machine_core.specs.declared.state.Next.TheVariants.{On}
 use Rattle.ns_machine_core.specs.Passing.{MovesTwice}
 use Rattle.ns_machine_core.specs.Ready.{MakesMove}
@@ -15,6 +16,11 @@ use Rattle.ns_machine_core.specs.Tried.{OnlyLookupsChanged}
 pub record MovesStraight (code : CodeProgram) (charged : ℕ) (old : Core) (at : Registers) (new : Core) (to : Registers) : Type 0 where
   pub moves : MakesMove code old (On at) new (On to)
   pub stays : StaysOnTop charged old new
+
+-- The next move was made, and leads there; or nothing has changed but the lookups that are kept.
+abbrev pub GoesOrNot : CodeProgram → Core → Registers → Core → Option Next → Type 0
+GoesOrNot code old at new (Some next) = MakesMove code old (On at) new next
+GoesOrNot code old at new None = OnlyLookupsChanged code old new
 
 -- The next move was made, and leads there, or the one after it does, which was made too; or nothing has changed but the lookups that are kept.
 abbrev pub MovesOrNot : CodeProgram → Core → Registers → Core → Led → Type 0

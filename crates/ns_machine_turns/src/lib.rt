@@ -4,6 +4,7 @@
 #![tactic(auto)]
 
 pub mod acting;
+mod blockwise;
 pub mod charging;
 pub mod fetching;
 pub mod laws;

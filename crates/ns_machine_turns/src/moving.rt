@@ -81,6 +81,29 @@ pub fn take_up(
     }
 }
 
+/// The same, in code that knows the evaluation of a block before all else.
+#[inline(always)]
+pub fn take_up_soon(
+    plan: &Plan,
+    code: &CodeProgram,
+    core: &mut Core,
+    at: Registers,
+    own: OwnSends,
+) -> Next
+    requires { RunsBy code.now plan.now own core.old (next.Waits at) }
+    ensures { MakesMove code.now core.old (next.Waits at) core.new result }
+{
+    match core.waiting {
+        Pending::Evaluating {
+            block,
+            site,
+            floor,
+            first,
+        } => evaluate(code, core, at, Sent { site, floor, first }, block),
+        _ => take_up(plan, code, core, at, own),
+    }
+}
+
 /// What was sent from a floor on, above which none of its arguments stand.
 fn at_floor(site: KeptSite, floor: u32) -> Sent
     ensures { result ≡ sent_from_floor site floor }

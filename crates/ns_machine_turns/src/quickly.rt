@@ -1,7 +1,7 @@
 //! One move by the quick way.
 
 ghost use Rattle.std.specs.Prelude.{◌≡◌};
-ghost use Rattle.ns_machine_plan.specs.Rows.{entry_of};
+ghost use Rattle.ns_machine_plan.specs.Plan.{AreStepsOf};
 ghost use Rattle.ns_machine_core.specs.declared.state.Next.TheVariants as next;
 ghost use Rattle.ns_machine_core.specs.Straight.{IsOnTop};
 ghost use Rattle.ns_machine_turns.specs.Prepared.{IsPrepared, IsPreparedToRun};
@@ -15,10 +15,11 @@ use ns_machine_core::led::Led;
 use ns_machine_core::on_top::OnTop;
 use ns_machine_core::state::Core;
 use ns_machine_frames::registers::Registers;
+use ns_machine_plan::kept_step::KeptSteps;
 use ns_machine_plan::plan::Plan;
 
 /// Does the next step of the body that runs in the topmost frame, where it is one of those that are taken most; else nothing
-/// has changed but lookups that are kept. The steps of the body begin at that entry.
+/// has changed but lookups that are kept.
 #[inline(always)]
 pub fn go_quickly(
     plan: &Plan,
@@ -26,17 +27,17 @@ pub fn go_quickly(
     core: &mut Core,
     at: Registers,
     top: OnTop,
-    entry: usize,
+    steps: KeptSteps<'_>,
 ) -> Led
     requires prepared { IsPrepared code.now plan.now core.old.places }
     requires can { IsPreparedToRun code.now core.old (next.On at) }
     requires top { IsOnTop code.now top core.old.stack.frames.items }
-    requires entry { entry ≡ entry_of code.now top.body }
+    requires steps { AreStepsOf code.now top.body steps }
     ensures { MovesOrNot code.now core.old at core.new result }
 {
     moves_keep_machines_ready();
     passing_keeps_machines_ready();
-    let step = fetch_from(plan, code, core, at, top.body, entry);
+    let step = fetch_from(plan, code, core, at, top.body, steps);
     let behind = Registers {
         next: at.next + 1,
         ..at

@@ -14,11 +14,11 @@ ghost use Rattle.ns_machine_core.specs.declared.state.Next.TheVariants as next;
 ghost use Rattle.ns_machine_turns.specs.Turning.{RunsBy, HasGone};
 
 use crate::acting::act_along;
+use crate::blockwise::move_on;
 use crate::charging::charges;
 use crate::laws::{moves_go_along, passing_goes_along};
-use crate::moving::{step, take_up};
+use crate::moving::{step, take_up, take_up_soon};
 use crate::quickly::go_quickly;
-use crate::stepping::run_on;
 use ns_code::program::CodeProgram;
 use ns_machine_core::laws::{moves_keep_machines_ready, turns_go_by_moves};
 use ns_machine_core::led::Led;
@@ -189,16 +189,19 @@ fn go_straight(
     moves_go_along();
     passing_goes_along();
     running_bodies_have_steps();
-    let row = plan.row(code, body);
-    let entry = row.entry;
+    let steps = plan.steps_of(code, body);
     let top = OnTop {
         body,
-        environment: row.environment,
+        environment: plan.row(code, body).environment,
     };
     let mut here = at;
     let mut rest = left;
     'straight: loop {
-        match go_quickly(plan, code, core, here, top, entry) {
+        let behind = Registers {
+            next: here.next + 1,
+            ..here
+        };
+        match go_quickly(plan, code, core, here, top, steps) {
             Led::Straight(to) => here = to,
             Led::Charged(to) => {
                 rest -= 1;
@@ -209,8 +212,24 @@ fn go_straight(
             }
             Led::On(to) => return Next::On(to),
             Led::Answered(to) => return Next::On(to),
-            Led::Nowhere => return as_value(go_apart(plan, code, core, here, rest, own)),
+            Led::Nowhere => {
+                let before = step_back(behind);
+                return as_value(go_apart(plan, code, core, before, rest, own));
+            }
         }
+    }
+}
+
+/// The registers before a step, from those behind it.
+// The number of the step itself isn't needed any more when a step is done by the quick way, so that only the next one has to be
+// carried through it.
+#[inline(always)]
+fn step_back(behind: Registers) -> Registers
+    ensures { result ≡ record behind { next = behind.next - 1 } }
+{
+    Registers {
+        next: behind.next.saturating_sub(1),
+        ..behind
     }
 }
 
@@ -252,12 +271,12 @@ fn run_apart(
 {
     moves_go_along();
     let begun = core.run.world.counters().steps;
-    let moved = run_on(plan, code, core, at, own);
+    let moved = move_on(plan, code, core, at, own);
     if left <= core.run.world.counters().steps - begun {
         return moved;
     }
     match moved {
-        Next::Waits(to) => take_up(plan, code, core, to, own),
+        Next::Waits(to) => take_up_soon(plan, code, core, to, own),
         Next::On(_) | Next::Ended => moved,
     }
 }

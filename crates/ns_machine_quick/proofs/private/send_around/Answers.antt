@@ -6,8 +6,8 @@ use Rattle.ns_machine_quick.proofs.private.send_around.Goals as goal
 pub found_around-requires-clause-holder : goal.found_around-requires-clause-holder
 found_around-requires-clause-holder c = ap (λ (p : Place). p.holder) c.requires.around
 
-pub begin_around-requires-clause-receiver : goal.begin_around-requires-clause-receiver
-begin_around-requires-clause-receiver c = ap (λ (p : Place). p.object) c.requires.around
+pub enter_around-requires-clause-receiver : goal.enter_around-requires-clause-receiver
+enter_around-requires-clause-receiver c = ap (λ (p : Place). p.object) c.requires.around
 
 pub get_around-requires-clause-receiver : goal.get_around-requires-clause-receiver
 get_around-requires-clause-receiver c = ap (λ (p : Place). p.object) c.requires.around
@@ -18,7 +18,7 @@ set_around-requires-clause-receiver c = ap (λ (p : Place). p.object) c.requires
 pub returns-in-Method : goal.returns-in-Method
 returns-in-Method c =
     rw c.led_on.ensures
-    (around_on c.args.code.now c.args.core.now c.begin_around.new.core c.args.at c.args.sent c.args.running c.args.level c.begin_around.result c.begin_around.ensures)
+    (around_on c.args.code.now c.args.core.now c.enter_around.new.core c.args.at c.args.sent c.args.running c.args.level c.enter_around.result c.enter_around.ensures)
 
 pub returns-in-Getter : goal.returns-in-Getter
 returns-in-Getter c =

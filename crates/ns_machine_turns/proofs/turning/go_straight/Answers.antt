@@ -1,16 +1,32 @@
-use Rattle.std.proofs.Common.{◌-◌, ◌<◌, refl, arith, sym, subst}
+use Rattle.std.proofs.Common.{◌-◌, ◌<◌, ◌∙◌, refl, arith, sym, subst}
+use Rattle.ns_machine_frames.specs.declared.registers.Registers.{Registers}
 use Rattle.ns_machine_core.specs.declared.state.Next.{Next}
 use Rattle.ns_machine_core.specs.declared.state.Next.TheVariants.{On}
-use Rattle.ns_machine_turns.specs.Turning.{HasGone}
+use Rattle.ns_machine_turns.specs.Turning.{HasGone, RunsBy}
 use Rattle.ns_machine_turns.proofs.Along.{none_gone, body_gone, body_falls}
 use Rattle.ns_machine_turns.proofs.Untouched.{untouched_along, untouched_far, untouched_steps}
-use Rattle.ns_machine_turns.proofs.Fetched.{body_has_step}
+use Rattle.ns_machine_turns.proofs.Fetched.{body_has_step, few_steps, stepped_back}
 use Rattle.ns_machine_turns.proofs.turning.go_straight.Goals as goal
 
-pub row-row-requires-clause-there : goal.row-row-requires-clause-there
-row-row-requires-clause-there c =
+pub steps_of-steps-requires-clause-there : goal.steps_of-steps-requires-clause-there
+steps_of-steps-requires-clause-there c =
     (body_has_step c.args.code.now c.requires.runs.can.grants c.args.core.now c.args.at c.args.body c.requires.runs.can.ready.valid c.requires.body
     (c.running_bodies_have_steps.ensures c.args.code.now)).body_there
+
+pub row-requires-clause-there : goal.row-requires-clause-there
+row-requires-clause-there c =
+    (body_has_step c.args.code.now c.requires.runs.can.grants c.args.core.now c.args.at c.args.body c.requires.runs.can.ready.valid c.requires.body
+    (c.running_bodies_have_steps.ensures c.args.code.now)).body_there
+
+-- the number of the next step is small
+pub overflow_add-behind : goal.overflow_add-behind
+overflow_add-behind c =
+    let runs = c.straight.invariant.along.runs in
+    let there =
+    (body_has_step c.args.code.now runs.can.grants c.straight.core c.straight.here c.args.body runs.can.ready.valid c.straight.invariant.runs
+    (c.running_bodies_have_steps.ensures c.args.code.now)).next_there in
+    let few = few_steps c.args.code.now c.args.body runs.prepared.of_code.fits in
+    omega (arith, there, few)
 
 pub straight-init : goal.straight-init
 straight-init c =
@@ -82,6 +98,8 @@ returns-in-Answered c =
 
 pub go_apart-requires-clause-runs : goal.go_apart-requires-clause-runs
 go_apart-requires-clause-runs c =
+    subst (λ (at : Registers). RunsBy c.args.code.now c.args.plan.now c.args.own c.go_quickly.new.core (On at))
+    (sym (c.step_back-before.ensures ∙ stepped_back c.straight.here))
     (untouched_along c.args.code.now c.args.plan.now c.args.own c.args.left c.args.core.now (On c.args.at) c.straight.core c.go_quickly.new.core
     c.straight.here c.straight.invariant.along c.in-Nowhere.ensures).runs
 
@@ -89,8 +107,13 @@ pub returns-in-Nowhere : goal.returns-in-Nowhere
 returns-in-Nowhere c =
     let rest = c.straight.invariant.rest in
     let untouched = untouched_steps c.args.code.now c.straight.core c.go_quickly.new.core c.in-Nowhere.ensures in
+    let here = c.step_back-before.ensures ∙ stepped_back c.straight.here in
+    let gone =
+    subst (λ (at : Registers). HasGone c.args.code.now c.args.plan.now c.args.own c.straight.rest c.go_quickly.new.core (On at) c.go_apart.new.core
+    c.go_apart.result)
+    here c.go_apart.ensures in
     subst (λ (next : Next). HasGone c.args.code.now c.args.plan.now c.args.own c.args.left c.args.core.now (On c.args.at) c.go_apart.new.core next)
     (sym c.as_value.ensures)
     (untouched_far c.args.code.now c.args.plan.now c.args.own c.args.left c.straight.rest c.args.core.now c.straight.core c.go_quickly.new.core
     c.go_apart.new.core (On c.args.at) c.straight.here c.go_apart.result c.straight.invariant.along refl c.in-Nowhere.ensures
-    (omega (arith, rest, untouched)) c.go_apart.ensures)
+    (omega (arith, rest, untouched)) gone)
