@@ -3,13 +3,14 @@
 ghost use Rattle.std.specs.Prelude.{◌≡◌, ◌==◌, not};
 ghost use Rattle.std.specs.Bool.{OnFalse, OnTrue};
 ghost use Rattle.ns_handed.specs.Hands.{is_question};
-ghost use Rattle.ns_opened.specs.Host.{EndsAsking, EndsOpening, EndsTurn, Numbered, arguments_of, is_opening};
+ghost use Rattle.ns_opened.specs.Host.{EndsAsking, EndsOpening, EndsTurn, IsNoFault, Numbered, arguments_of, is_opening};
 ghost use Rattle.ns_reply.specs.Room.{IsUntouched};
 
 use crate::MALFORMED;
 use ns_handed::value::HostValue;
 use ns_opened::ask::Question;
 use ns_opened::host::{HostTerms, host_ask, host_open, host_turn};
+use ns_opened::laws::calls_end_without_fault;
 use ns_reply::room::Told;
 use std::alloc::Global;
 
@@ -29,7 +30,10 @@ pub extern "C" fn nspk_open(
     // The status is 7 exactly where the call isn't well formed, and then nothing is given.
     ensures malformed { (result == MALFORMED) ≡ not (is_opening arguments.now texts.now) }
     ensures nothing { OnFalse (is_opening arguments.now texts.now) (IsUntouched room.old room.new told.new) }
+    // No file is outside, and no stream: no call ends as a file that couldn't be read or a stream that couldn't be written.
+    ensures no_fault { IsNoFault result }
 {
+    calls_end_without_fault();
     match host_open(alloc, terms, arguments, texts, image, room, told) {
         Some(status) => status.exit_code(),
         None => MALFORMED,
@@ -56,7 +60,10 @@ pub extern "C" fn nspk_ask(
     // The status is 7 exactly where the call isn't well formed, and then nothing is given.
     ensures malformed { (result == MALFORMED) ≡ not (is_question values.now texts.now) }
     ensures nothing { OnFalse (is_question values.now texts.now) (IsUntouched room.old room.new told.new) }
+    // No file is outside, and no stream: no call ends as a file that couldn't be read or a stream that couldn't be written.
+    ensures no_fault { IsNoFault result }
 {
+    calls_end_without_fault();
     let question = Question {
         name,
         values,
@@ -80,7 +87,9 @@ pub extern "C" fn nspk_turn(
     room: &mut [u8],
     told: &mut Told,
 ) -> u8
-    ensures { Numbered (EndsTurn name steps program.now) result room.old room.new told.new }
+    ensures told { Numbered (EndsTurn name steps program.now) result room.old room.new told.new }
+    ensures no_fault { IsNoFault result }
 {
+    calls_end_without_fault();
     host_turn(alloc, name, program, steps, room, told).exit_code()
 }

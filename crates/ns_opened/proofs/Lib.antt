@@ -1,3 +1,4 @@
+pub mod Faultless
 pub mod Laying
 pub mod Reading
 pub mod Turning

@@ -1,5 +1,5 @@
 -- What a host asks for on a program that it keeps, and how each call ends.
-use Rattle.std.specs.Prelude.{◌≡◌, ◌⊎◌, ℕ, ◌==◌, ◌&&◌, not, List, [], length, Bool, true, false}
+use Rattle.std.specs.Prelude.{◌≡◌, ◌≢◌, ◌⊎◌, ℕ, ◌==◌, ◌&&◌, not, List, [], length, Bool, true, false}
 use Rattle.std.specs.List.{list_all}
 use Rattle.ns_base.specs.Status.{exit_code}
 use Rattle.ns_base.specs.declared.status.Status.{Status}
@@ -63,3 +63,11 @@ EndsTurn name steps bytes = Ends (λ reply. reply ≡ turn_answer name steps byt
 -- it ends so with the number of a status
 abbrev pub Numbered : (Status → (old new : List ℕ) → Told → Type 0) → (result : ℕ) → (old new : List ℕ) → Told → Type 0
 Numbered How result old new told = (status : Status) × (result ≡ exit_code status) × How status old new told
+
+-- it ends with no such number as that of a fault of a file or of a stream: there is none outside that could fail
+abbrev pub IsNoFault : ℕ → Type 0
+IsNoFault result = (result ≢ 4) × (result ≢ 5)
+
+-- that holds of each call that ends so
+abbrev pub EndsWithoutFault : (Status → (old new : List ℕ) → Told → Type 0) → Type 0
+EndsWithoutFault How = (result : ℕ) (old new : List ℕ) (told : Told) → Numbered How result old new told → IsNoFault result

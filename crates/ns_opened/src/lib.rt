@@ -5,6 +5,7 @@
 
 pub mod ask;
 pub mod host;
+pub mod laws;
 pub mod lay;
 pub mod open;
 pub mod program;

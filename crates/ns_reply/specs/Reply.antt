@@ -1,5 +1,5 @@
 -- What a call tells of a program.
-use Rattle.std.specs.Prelude.{ℕ, Bool, List, [], ◌∷◌, ◌++◌, drop, length, codes, Option, Some, None, nat_lt, if◌then◌else◌}
+use Rattle.std.specs.Prelude.{ℕ, Bool, true, false, List, [], ◌∷◌, ◌++◌, drop, length, codes, Option, Some, None, nat_lt, if◌then◌else◌}
 use Rattle.ns_base.specs.declared.status.Status.{Status}
 use Rattle.ns_base.specs.declared.status.Status.TheVariants as status
 use Rattle.ns_code.specs.declared.program.CodeProgram.{CodeProgram}
@@ -48,6 +48,16 @@ refusal_status why.OtherProgram = status.Refused
 refusal_status why.NoRoom = status.Limit
 refusal_status why.MayNotAsk = status.Refused
 refusal_status why.TooLarge = status.Refused
+
+-- whether a call ended as one that couldn't read a file, or couldn't write a stream
+abbrev pub is_fault : Status → Bool
+is_fault status.Done = false
+is_fault status.ProgramError = false
+is_fault status.Refused = false
+is_fault status.Limit = false
+is_fault status.ReadFault = true
+is_fault status.WriteFault = true
+is_fault status.Memory = false
 
 -- nothing is used
 abbrev pub nothing_used : Counters
