@@ -65,7 +65,7 @@ function stop() {
 
 function setBusy(it) {
   busy = it;
-  for (const id of ['run', 'check', 'test', 'format', 'ask']) at(id).disabled = Boolean(it);
+  for (const id of ['run', 'check', 'test', 'format', 'ask', 'first', 'back', 'forth', 'last', 'go']) at(id).disabled = Boolean(it);
   at('stop').disabled = !it;
 }
 
@@ -235,6 +235,32 @@ function audit() {
   });
 }
 
+// ---- The replay
+
+// The end of every run that its limits allow.
+const LAST = 1_000_000_000_000;
+const numberIn = (id) => Math.min(LAST, Math.max(0, Math.floor(Number(at(id).value) || 0)));
+
+// Goes to a step of the run of the first file, and shows what is used there and what was printed up to there.
+function replay(step) {
+  clear();
+  const asked = { options: library(), limits: limits(), file: names()[0], step: Math.min(LAST, Math.max(0, step)) };
+  ask({ replay: asked, files: texts() }, (answer) => {
+    if (answer.status !== 0) return showAnswer(answer);
+    at('step').value = answer.position;
+    at('stood').textContent = answer.out.trim();
+    at('output').textContent = answer.printed;
+  });
+}
+
+const first = () => replay(0);
+const last = () => replay(LAST);
+const back = () => replay(numberIn('step') - numberIn('by'));
+const forth = () => replay(numberIn('step') + numberIn('by'));
+const go = () => replay(numberIn('step'));
+
+// ---- What is shown
+
 function showAnswer(answer) {
   at('output').textContent = answer.out;
   showReport(answer.err, answer.status !== 0);
@@ -301,7 +327,8 @@ function choose(number) {
   at('lib').checked = example.lib;
   at('arguments').value = example.arguments.join(' ');
   at('about').textContent = example.about;
-  at('class').value = at('verdict').textContent = '';
+  at('class').value = at('verdict').textContent = at('stood').textContent = '';
+  at('step').value = '0';
   shown = 0;
   wrong = null;
   showFile(0);
@@ -319,7 +346,7 @@ function begin() {
   at('theme').onclick = () => setTheme(document.documentElement.dataset.theme === 'dark' ? 'light' : 'dark');
   at('examples').replaceChildren(...data.examples.map((example, number) => new Option(example.name, number)));
   at('examples').onchange = () => choose(Number(at('examples').value));
-  Object.entries({ run, check, test, format, stop, add, rename, remove, ask: audit }).forEach(([id, action]) => { at(id).onclick = () => action(); });
+  Object.entries({ run, check, test, format, stop, add, rename, remove, ask: audit, first, back, forth, last, go }).forEach(([id, action]) => { at(id).onclick = () => action(); });
   at('text').oninput = () => {
     files[shown].text = at('text').value;
     wrong = null;
