@@ -1,15 +1,10 @@
 //! Tests of whole commands, by tables, over files and streams in memory.
-//! They try what commands write to both streams, what they store, their statuses, and the adapters of the system over one
-//! in memory.
-//! Stands on run and ns_system.
+//! They try what commands write to both streams, what they store, and their statuses.
+//! Stands on run.
 #![tactic(auto)]
 
 #[cfg(test)]
 mod actor_tests;
-#[cfg(test)]
-mod adapter_tests;
-#[cfg(test)]
-mod broken_system;
 #[cfg(test)]
 mod command;
 #[cfg(test)]

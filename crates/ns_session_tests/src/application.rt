@@ -5,7 +5,6 @@ use ns_facets::row::Grants;
 use ns_session::fault::AddFault;
 use ns_session::session::Session;
 use ns_session_files::text::code_of_text;
-use ns_verify::verify::Verified;
 use std::alloc::Global;
 
 /// The console alone.
@@ -25,13 +24,8 @@ const LIMITS: Limits = Limits {
 /// Adds the application of a source to a session, with the console alone: what the session answers, or none where the source
 /// isn't that of an application.
 pub fn add(alloc: Global, session: &mut Session, source: &str) -> Option<Result<u32, AddFault>> {
-    match code(alloc, source) {
-        Some(code) if LIMITS.are_in_range() => Some(session.add(code, GRANTED, LIMITS)),
+    match code_of_text(alloc, "T.ns", source, false) {
+        Ok(code) if LIMITS.are_in_range() => Some(session.add(code, GRANTED, LIMITS)),
         _ => None,
     }
-}
-
-/// The code of a source, which is that of an application.
-pub fn code(alloc: Global, source: &str) -> Option<Verified> {
-    code_of_text(alloc, "T.ns", source, false).ok()
 }

@@ -1,9 +1,10 @@
 //! Random schedules: whatever turns the others have, an application without the board prints and reports what it does alone.
 
 use crate::application::add;
-use crate::random::next;
 use ns_base::no_memory::NoMemory;
 use ns_session::session::Session;
+use rand_pcg::Pcg32;
+use rand_pcg::rand_core::Rng;
 use std::alloc::Global;
 
 /// One that counts, one that fails after some lines, and one that never ends by itself.
@@ -73,11 +74,10 @@ fn together(alloc: Global) -> Option<Session> {
 
 /// Whether after each of 40 random turns each application has printed a beginning of what it prints alone.
 fn play(session: &mut Session, seed: u64, alone: &[Outcome]) -> bool {
-    let mut random = seed;
+    let mut random = Pcg32::new(seed, 0);
     for _ in 0..40 {
-        random = next(random);
-        let number = (random >> 60) as u32 % 4;
-        let _turn = session.turn(number, random >> 32 & 31);
+        let number = random.next_u32() % 4;
+        let _turn = session.turn(number, u64::from(random.next_u32() % 32));
         if !are_begun(session, alone) {
             return false;
         }

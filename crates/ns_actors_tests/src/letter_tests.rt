@@ -1,12 +1,13 @@
 //! Random schedules of letters and turns: each letter comes once and in order, and each actor stands where it stands alone.
 
 use crate::alone::stands_alone;
-use crate::random::next;
 use crate::troupe::{COUNT, codes, troupe};
 use ns_actors::letter::{HOST, Letter};
 use ns_actors_calls::actors::Actors;
 use ns_facets::board::Plain;
 use ns_verify::verify::Verified;
+use rand_pcg::Pcg32;
+use rand_pcg::rand_core::Rng;
 use std::alloc::Global;
 
 #[test]
@@ -37,14 +38,15 @@ fn keep_to_letters(alloc: Global, seed: u64, codes: &[Verified]) -> bool {
 
 /// Sixty random calls: a letter of the host to one of the actors, or a turn of one, of up to 63 steps.
 fn play(actors: &mut Actors, seed: u64) {
-    let mut random = seed;
+    let mut random = Pcg32::new(seed, 0);
     for _ in 0..60 {
-        random = next(random);
-        let number = (random >> 60) as u32 % COUNT;
-        if random >> 40 & 3 == 0 {
-            post(actors, number, random >> 50 & 3 == 0);
-        } else {
-            let _turn = actors.turn(number, random >> 32 & 63);
+        let number = random.next_u32() % COUNT;
+        match random.next_u32() % 16 {
+            0 => post(actors, number, true),
+            1..=3 => post(actors, number, false),
+            _ => {
+                let _turn = actors.turn(number, u64::from(random.next_u32() % 64));
+            }
         }
     }
 }

@@ -1,7 +1,6 @@
-//! What calls of actors answer and refuse, and what they tell of one that isn't there.
+//! What calls answer and refuse, and what they tell of one that isn't there.
 
-use crate::application::code;
-use crate::troupe::{GRANTED, LIMITS};
+use crate::troupe::{GRANTED, LIMITS, code};
 use ns_actors::fault::{AddFault, PostFault, TurnFault};
 use ns_actors::letter::HOST;
 use ns_actors::turn::{ActorTurn, Stop};

@@ -1,10 +1,10 @@
 //! Four actors of four applications, which post letters to one another.
 //! Each numbers the letters that it posts from 1, so that a letter that is lost, comes twice or comes late is seen.
 
-use crate::application::code;
 use ns_actors_calls::actors::Actors;
 use ns_base::limits::Limits;
 use ns_facets::row::Grants;
+use ns_session_files::text::code_of_text;
 use ns_verify::verify::Verified;
 use std::alloc::Global;
 
@@ -73,6 +73,11 @@ pub const LIMITS: Limits = Limits {
     depth: 40,
     out: 200,
 };
+
+/// The code of a source, which is that of an application.
+pub fn code(alloc: Global, source: &str) -> Option<Verified> {
+    code_of_text(alloc, "T.ns", source, false).ok()
+}
 
 /// The codes of the four.
 pub fn codes(alloc: Global) -> Option<Vec<Verified>> {
