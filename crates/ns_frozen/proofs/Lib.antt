@@ -1,4 +1,5 @@
 pub mod Parts
+pub mod Heads
 pub mod Cells
 pub mod Numbers
 pub mod Thawed

@@ -8,5 +8,8 @@ pub mod fault;
 pub mod frame;
 pub mod frozen;
 pub mod laws;
+pub mod lent;
 pub mod pending;
 pub mod plain;
+pub mod pools;
+pub mod stored;

@@ -14,6 +14,7 @@ use ns_base::no_memory::NoMemory;
 use ns_code::program::CodeProgram;
 use ns_frozen::cell::CellData;
 use ns_frozen::frame::{FrameKind, FrozenFrame};
+use ns_frozen::stored::Cells;
 use ns_frozen_seen::seen::Seen;
 use ns_world::value::Value;
 use std::alloc::Global;
@@ -25,7 +26,7 @@ const NO_BODY: u32 = u32::MAX;
 pub fn seen_fitting<'a>(
     alloc: Global,
     code: &'a CodeProgram,
-    cells: &'a [CellData],
+    cells: &'a Cells,
     frames: &[FrozenFrame],
 ) -> Result<Seen<'a>, NoMemory>
     requires sound { IsSound code.now }
@@ -59,8 +60,9 @@ fn keep_blocks(seen: &Seen<'_>, kept: &mut Vec<u32>) -> bool
     requires kept { AreFitting seen.now.code.now (heap_of seen.now) seen.now.numbers kept.old.items }
     ensures { AreFitting seen.now.code.now (heap_of seen.now) seen.now.numbers kept.new.items }
 {
-    'cells: for cell in seen.cells {
-        if !keep_cell(seen, kept, cell) {
+    'cells: for place in 0..seen.cells.len() {
+        let cell = seen.cells.at(place);
+        if !keep_cell(seen, kept, &cell) {
             return false;
         }
     }
@@ -68,13 +70,13 @@ fn keep_blocks(seen: &Seen<'_>, kept: &mut Vec<u32>) -> bool
 }
 
 /// The same of one cell.
-fn keep_cell(seen: &Seen<'_>, kept: &mut Vec<u32>, cell: &CellData) -> bool
+fn keep_cell(seen: &Seen<'_>, kept: &mut Vec<u32>, cell: &CellData<'_>) -> bool
     requires seen { IsSeen seen.now }
     requires kept { AreFitting seen.now.code.now (heap_of seen.now) seen.now.numbers kept.old.items }
     ensures { AreFitting seen.now.code.now (heap_of seen.now) seen.now.numbers kept.new.items }
 {
     match cell {
-        CellData::Block { body, env, .. } => keep_block(seen, kept, *body, env.value()),
+        CellData::Block { body, env, .. } => keep_block(seen, kept, *body, *env),
         _ => true,
     }
 }

@@ -10,14 +10,12 @@ ghost use Rattle.ns_frozen_seen.specs.Keepers as spec;
 ghost use Rattle.ns_frozen_tables.specs.Numbers.{IsPlaceOf};
 ghost use Rattle.ns_frozen_seen.specs.Seen.{IsSeen, heap_of};
 
-use crate::classes::declared_class;
 use crate::climbs::Climb;
 use crate::seen::Seen;
 use ns_base::no_memory::NoMemory;
 use ns_code::class::NestedCode;
 use ns_code::program::CodeProgram;
 use ns_frozen::plain::PlainValue;
-use ns_frozen_tables::kinds::{declaration, superclass};
 use ns_frozen_tables::numbers::place_of;
 
 /// A class and its declaration, the first word for its nested classes, the place of the next class above it to look at for the
@@ -87,9 +85,8 @@ impl Seen<'_> {
             spec.IsKeeper self.now.code.now (heap_of self.now) self.now.chains.numbers.items place result }
     {
         let holder = number_at(self.chains.numbers.as_slice(), place);
-        let cell = self.find(holder);
-        let decl = declaration(cell);
-        let over = declared_class(superclass(cell));
+        let decl = self.declaration(holder);
+        let over = self.superclass(holder);
         let at = self.over_at(holder, over);
         Keeper {
             holder,

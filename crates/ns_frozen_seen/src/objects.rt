@@ -95,8 +95,8 @@ fn word_at(words: &[PlainValue], word: u64) -> Value
 }
 
 /// Whether a cell is a class of that declaration, enclosed by this object and holder.
-fn is_kept_cell(object: u128, holder: u32, decl: u32, cell: Option<&CellData>) -> bool
-    ensures { result ≡ kinds.is_kept_cell object holder decl (option_map (λ cell. cell.now) cell.entry) }
+fn is_kept_cell(object: u128, holder: u32, decl: u32, cell: Option<CellData<'_>>) -> bool
+    ensures { result ≡ kinds.is_kept_cell object holder decl cell.entry }
 {
     match cell {
         Some(
@@ -106,7 +106,7 @@ fn is_kept_cell(object: u128, holder: u32, decl: u32, cell: Option<&CellData>) -
                 holder: outer,
                 ..
             },
-        ) => *other == decl && names(object, encl.value()) && is_ref(holder, outer.value()),
+        ) => other == decl && names(object, encl) && is_ref(holder, outer),
         _ => false,
     }
 }

@@ -18,6 +18,7 @@ use ns_base::no_memory::NoMemory;
 use ns_base::selector::Sel;
 use ns_code::program::CodeProgram;
 use ns_frozen::cell::CellData;
+use ns_frozen::stored::Cells;
 use ns_frozen_tables::bodies::Bodies;
 use ns_frozen_tables::chain::{Chain, Chains, chain_in};
 use ns_frozen_tables::nested::outers_of;
@@ -32,7 +33,7 @@ use std::alloc::Global;
 #[derive(Drop)]
 pub struct Seen<'a> {
     pub code: &'a CodeProgram,
-    pub cells: &'a [CellData],
+    pub cells: &'a Cells,
     pub numbers: Items<u32>,
     pub chains: Chains,
     pub selectors: Selectors,
@@ -44,11 +45,7 @@ pub struct Seen<'a> {
 
 impl<'a> Seen<'a> {
     /// Sees these cells, over this code, where nothing is known of what environments fit.
-    pub fn of(
-        alloc: Global,
-        code: &'a CodeProgram,
-        cells: &'a [CellData],
-    ) -> Result<Seen<'a>, NoMemory>
+    pub fn of(alloc: Global, code: &'a CodeProgram, cells: &'a Cells) -> Result<Seen<'a>, NoMemory>
         requires sound { IsSound code.now }
         requires fits { Fits code.now }
         ensures seen { IfOk result (λ seen. spec.IsSeen seen) }
@@ -61,11 +58,7 @@ impl<'a> Seen<'a> {
 
     /// The same, where nothing is kept of classes yet.
     #[tactic(auto, using(crate::proofs::Kept::none_kept, crate::proofs::Found::empty_fits))]
-    fn begin(
-        alloc: Global,
-        code: &'a CodeProgram,
-        cells: &'a [CellData],
-    ) -> Result<Seen<'a>, NoMemory>
+    fn begin(alloc: Global, code: &'a CodeProgram, cells: &'a Cells) -> Result<Seen<'a>, NoMemory>
         requires sound { IsSound code.now }
         requires fits { Fits code.now }
         ensures seen { IfOk result (λ seen. spec.IsSeen seen) }
@@ -93,9 +86,9 @@ impl<'a> Seen<'a> {
 
     /// The cell of that number, if there is one.
     #[tactic(auto, using(crate::proofs::Found::found_one, crate::proofs::Found::found_none, crate::proofs::Found::rising_numbers))]
-    pub fn find(&self, number: u32) -> Option<&CellData>
+    pub fn find(&self, number: u32) -> Option<CellData<'_>>
         requires { spec.IsSeen self.now }
-        ensures { option_map (λ cell. cell.now) result ≡ option_map cell_frozen (heap.find_cell (spec.heap_of self.now) number) }
+        ensures { result ≡ option_map cell_frozen (heap.find_cell (spec.heap_of self.now) number) }
     {
         match place_of(self.numbers.as_slice(), number) {
             Some(place) => cell_at(self.cells, place),

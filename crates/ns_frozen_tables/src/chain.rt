@@ -13,6 +13,7 @@ use crate::numbers::{place_of, size};
 use ns_base::no_memory::NoMemory;
 use ns_code::program::CodeProgram;
 use ns_frozen::cell::CellData;
+use ns_frozen::stored::Cells;
 use ns_world::value::{KClass, Value};
 use std::alloc::Global;
 
@@ -32,7 +33,7 @@ pub struct Chains {
 
 impl Chains {
     /// The chains of the classes among cells.
-    pub fn of(alloc: Global, code: &CodeProgram, cells: &[CellData]) -> Result<Chains, NoMemory>
+    pub fn of(alloc: Global, code: &CodeProgram, cells: &Cells) -> Result<Chains, NoMemory>
         requires { Fits code.now }
         ensures { IfOk result (λ chains. spec.AreChains code.now (heap_thawed code.now cells.now) chains) }
     {
@@ -41,18 +42,19 @@ impl Chains {
             chains: Vec::new(alloc),
         };
         let mut number: u64 = 0;
-        'cells: for cell in cells {
+        'cells: for place in 0..cells.len() {
             if number > u64::from(u32::MAX) {
                 return Ok(chains);
             }
-            chains.add(code, number as u32, cell)?;
-            number += size(cell);
+            let cell = cells.at(place);
+            chains.add(code, number as u32, &cell)?;
+            number += size(&cell);
         }
         Ok(chains)
     }
 
     /// Adds the chain of a cell that stands behind others, where it is a class.
-    fn add(&mut self, code: &CodeProgram, number: u32, cell: &CellData) -> Result<(), NoMemory>
+    fn add(&mut self, code: &CodeProgram, number: u32, cell: &CellData<'_>) -> Result<(), NoMemory>
         requires fits { Fits code.now }
         requires rising { spec.AreRising self.old }
         requires here { spec.HasHeap code.now number self.old }
@@ -61,8 +63,7 @@ impl Chains {
     {
         match cell {
             CellData::Class { decl, over, .. } => {
-                let over = over.value();
-                let chain = next_chain(code, *decl, over, self.over(over));
+                let chain = next_chain(code, *decl, *over, self.over(*over));
                 self.numbers.push(number)?;
                 self.chains.push(chain)?;
                 Ok(())

@@ -8,8 +8,8 @@ use ns_frozen::plain::PlainValue;
 use ns_world::value::Value;
 
 /// Whether a cell can be a receiver: it is there, and no environment.
-pub fn is_receiver_cell(cell: Option<&CellData>) -> bool
-    ensures { result ≡ spec.is_receiver_cell (option_map (λ cell. cell.now) cell.entry) }
+pub fn is_receiver_cell(cell: Option<CellData<'_>>) -> bool
+    ensures { result ≡ spec.is_receiver_cell cell.entry }
 {
     match cell {
         Some(CellData::Environment { .. }) => false,
@@ -19,8 +19,8 @@ pub fn is_receiver_cell(cell: Option<&CellData>) -> bool
 }
 
 /// Whether a cell is a class.
-pub fn is_class(cell: Option<&CellData>) -> bool
-    ensures { result ≡ spec.is_class (option_map (λ cell. cell.now) cell.entry) }
+pub fn is_class(cell: Option<CellData<'_>>) -> bool
+    ensures { result ≡ spec.is_class cell.entry }
 {
     match cell {
         Some(CellData::Class { .. }) => true,
@@ -29,8 +29,8 @@ pub fn is_class(cell: Option<&CellData>) -> bool
 }
 
 /// Whether a cell is an environment.
-pub fn is_environment(cell: Option<&CellData>) -> bool
-    ensures { result ≡ spec.is_environment (option_map (λ cell. cell.now) cell.entry) }
+pub fn is_environment(cell: Option<CellData<'_>>) -> bool
+    ensures { result ≡ spec.is_environment cell.entry }
 {
     match cell {
         Some(CellData::Environment { .. }) => true,
@@ -39,8 +39,8 @@ pub fn is_environment(cell: Option<&CellData>) -> bool
 }
 
 /// Whether a cell is a block.
-pub fn is_block(cell: Option<&CellData>) -> bool
-    ensures { result ≡ spec.is_block (option_map (λ cell. cell.now) cell.entry) }
+pub fn is_block(cell: Option<CellData<'_>>) -> bool
+    ensures { result ≡ spec.is_block cell.entry }
 {
     match cell {
         Some(CellData::Block { .. }) => true,
@@ -49,8 +49,8 @@ pub fn is_block(cell: Option<&CellData>) -> bool
 }
 
 /// Whether a cell is an array.
-pub fn is_array(cell: Option<&CellData>) -> bool
-    ensures { result ≡ spec.is_array (option_map (λ cell. cell.now) cell.entry) }
+pub fn is_array(cell: Option<CellData<'_>>) -> bool
+    ensures { result ≡ spec.is_array cell.entry }
 {
     match cell {
         Some(CellData::Array(_)) => true,
@@ -59,8 +59,8 @@ pub fn is_array(cell: Option<&CellData>) -> bool
 }
 
 /// How many elements an array has, 0 where the cell is another.
-pub fn item_count(cell: Option<&CellData>) -> usize
-    ensures { result ≡ spec.item_count (option_map (λ cell. cell.now) cell.entry) }
+pub fn item_count(cell: Option<CellData<'_>>) -> usize
+    ensures { result ≡ spec.item_count cell.entry }
 {
     match cell {
         Some(CellData::Array(items)) => items.len(),
@@ -69,41 +69,41 @@ pub fn item_count(cell: Option<&CellData>) -> usize
 }
 
 /// The declaration of a class, 0 where the cell is none.
-pub fn declaration(cell: Option<&CellData>) -> u32
-    ensures { result ≡ spec.declaration (option_map (λ cell. cell.now) cell.entry) }
+pub fn declaration(cell: Option<CellData<'_>>) -> u32
+    ensures { result ≡ spec.declaration cell.entry }
 {
     match cell {
-        Some(CellData::Class { decl, .. }) => *decl,
+        Some(CellData::Class { decl, .. }) => decl,
         _ => 0,
     }
 }
 
 /// The superclass of a class, nil where the cell is none.
-pub fn superclass(cell: Option<&CellData>) -> Value
-    ensures { result ≡ spec.superclass (option_map (λ cell. cell.now) cell.entry) }
+pub fn superclass(cell: Option<CellData<'_>>) -> Value
+    ensures { result ≡ spec.superclass cell.entry }
 {
     match cell {
-        Some(CellData::Class { over, .. }) => over.value(),
+        Some(CellData::Class { over, .. }) => over,
         _ => Value::Nil,
     }
 }
 
 /// The class of an object.
-pub fn class_of(cell: Option<&CellData>) -> Option<u32>
-    ensures { result ≡ spec.class_of (option_map (λ cell. cell.now) cell.entry) }
+pub fn class_of(cell: Option<CellData<'_>>) -> Option<u32>
+    ensures { result ≡ spec.class_of cell.entry }
 {
     match cell {
-        Some(CellData::Object { class, .. }) => Some(*class),
+        Some(CellData::Object { class, .. }) => Some(class),
         _ => None,
     }
 }
 
 /// The parent and the locals of an environment.
-pub fn environment_in(cell: Option<&CellData>) -> Option<(Value, &[PlainValue])>
-    ensures { option_map (λ parts. (parts.0, parts.1.now)) result ≡ spec.environment_in (option_map (λ cell. cell.now) cell.entry) }
+pub fn environment_in<'a>(cell: Option<CellData<'a>>) -> Option<(Value, &'a [PlainValue])>
+    ensures { option_map (λ parts. (parts.0, parts.1.now)) result ≡ spec.environment_in cell.entry }
 {
     match cell {
-        Some(CellData::Environment { parent, locals }) => Some((parent.value(), locals.as_slice())),
+        Some(CellData::Environment { parent, locals }) => Some((parent, locals.as_slice())),
         _ => None,
     }
 }

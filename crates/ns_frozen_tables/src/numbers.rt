@@ -1,15 +1,16 @@
 //! The numbers of cells, which are the sums of the sizes before them.
 
-ghost use Rattle.std.specs.Prelude.{◌≡◌, ◌≤◌, true, length, IfOk, Some, slice_get, option_map};
+ghost use Rattle.std.specs.Prelude.{◌≡◌, ◌≤◌, true, length, IfOk, Some, slice_get};
 ghost use Rattle.ns_frozen_tables.specs.Numbers as spec;
 
 use ns_base::items::Items;
 use ns_base::no_memory::NoMemory;
 use ns_frozen::cell::CellData;
+use ns_frozen::stored::Cells;
 use std::alloc::Global;
 
 /// What a cell costs.
-pub fn size(cell: &CellData) -> u64
+pub fn size(cell: &CellData<'_>) -> u64
     ensures size { result ≡ spec.data_size cell.now }
     ensures few { result ≤ 9223372036854775808 }
 {
@@ -19,7 +20,7 @@ pub fn size(cell: &CellData) -> u64
         CellData::Block { .. } => 3,
         CellData::Environment { parent: _, locals } => locals.as_slice().len() as u64 + 1,
         CellData::Array(items) => items.as_slice().len() as u64 + 1,
-        CellData::Text(text) => text.bytes().len().div_ceil(8) as u64 + 1,
+        CellData::Text(text) => text.as_slice().len().div_ceil(8) as u64 + 1,
         CellData::Facet(_) => 1,
         CellData::Mirror(_) => 2,
         CellData::Message { .. } => 3,
@@ -28,17 +29,18 @@ pub fn size(cell: &CellData) -> u64
 
 /// The numbers of cells, in their order. What stands behind the last number that a reference can name has none.
 #[tactic(auto, using(crate::proofs::Found::past_end, crate::proofs::Found::numbers_on))]
-pub fn numbers_of(alloc: Global, cells: &[CellData]) -> Result<Items<u32>, NoMemory>
+pub fn numbers_of(alloc: Global, cells: &Cells) -> Result<Items<u32>, NoMemory>
     ensures { IfOk result (λ numbers. numbers ≡ spec.numbers_from 0 cells.now) }
 {
     let mut numbers = Vec::new(alloc);
     let mut number: u64 = 0;
-    'cells: for cell in cells {
+    'cells: for place in 0..cells.len() {
         if number > u64::from(u32::MAX) {
             return Ok(Items::from_vec(numbers));
         }
+        let cell = cells.at(place);
         numbers.push(number as u32)?;
-        number += size(cell);
+        number += size(&cell);
     }
     Ok(Items::from_vec(numbers))
 }
@@ -123,11 +125,12 @@ fn share(count: usize, part: u32, whole: u32) -> usize
 }
 
 /// The cell at a place.
-pub fn cell_at(cells: &[CellData], place: usize) -> Option<&CellData>
-    ensures { option_map (λ cell. cell.now) result ≡ slice_get cells.now place }
+pub fn cell_at(cells: &Cells, place: usize) -> Option<CellData<'_>>
+    ensures { result ≡ slice_get cells.now place }
 {
-    match cells.get(place) {
-        Some(cell) => Some(cell),
-        None => None,
+    if place < cells.len() {
+        Some(cells.at(place))
+    } else {
+        None
     }
 }

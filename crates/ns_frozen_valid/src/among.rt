@@ -23,14 +23,15 @@ pub fn bad_among(seen: &Seen<'_>, homes: u64, first: &[First], arguments: bool) 
     let mut arguments = arguments;
     let mut place: u64 = 0;
     let mut number: u128 = 0;
-    'cells: for cell in seen.cells {
-        if !stands(seen, homes, first, arguments, number, cell) {
+    'cells: for at in 0..seen.cells.len() {
+        let cell = seen.cells.at(at);
+        if !stands(seen, homes, first, arguments, number, &cell) {
             return Some(place);
         }
-        arguments = arguments_behind(first, arguments, cell);
+        arguments = arguments_behind(first, arguments, &cell);
         first = behind_first(first);
         place += 1;
-        number += u128::from(size(cell));
+        number += u128::from(size(&cell));
     }
     if is_awaited(first, arguments) {
         Some(place)
@@ -46,7 +47,7 @@ fn stands(
     first: &[First],
     arguments: bool,
     number: u128,
-    cell: &CellData,
+    cell: &CellData<'_>,
 ) -> bool
     requires seen { IsSeen seen.now }
     requires there { option_map cell_frozen (find_cell (heap_of seen.now) number) ≡ Some cell.now }

@@ -28,7 +28,7 @@ pub struct BlockParts {
 }
 
 /// Whether a cell of that number is as it must be, where so many methods have begun.
-pub fn is_good_cell(seen: &Seen<'_>, homes: u64, number: u128, cell: &CellData) -> bool
+pub fn is_good_cell(seen: &Seen<'_>, homes: u64, number: u128, cell: &CellData<'_>) -> bool
     requires seen { IsSeen seen.now }
     requires there { option_map cell_frozen (find_cell (heap_of seen.now) number) ≡ Some cell.now }
     ensures { result ≡ spec.is_good_cell seen.now.code.now (heap_of seen.now) homes number (cell_thawed seen.now.code.now [] cell.now) }
@@ -42,8 +42,7 @@ pub fn is_good_cell(seen: &Seen<'_>, homes: u64, number: u128, cell: &CellData) 
             encl,
             holder,
             over,
-        } => seen.has_links(number, *decl, over.value())
-            && is_placed(seen, *decl, encl.value(), holder.value()),
+        } => seen.has_links(number, *decl, *over) && is_placed(seen, *decl, *encl, *holder),
         CellData::Block {
             body,
             env,
@@ -52,21 +51,21 @@ pub fn is_good_cell(seen: &Seen<'_>, homes: u64, number: u128, cell: &CellData) 
             holder,
         } => {
             let parts = BlockParts {
-                env: env.value(),
+                env: *env,
                 home: *home,
-                receiver: receiver.value(),
+                receiver: *receiver,
                 holder: *holder,
             };
             is_good_block(seen, homes, *body, parts)
         }
         CellData::Environment { parent, locals } => {
-            seen.is_environment_or_nil(parent.value()) && seen.are_live(locals.as_slice())
+            seen.is_environment_or_nil(*parent) && seen.are_live(locals.as_slice())
         }
         CellData::Array(items) => seen.are_live(items.as_slice()),
         CellData::Text(_) => true,
         CellData::Facet(_) => true,
-        CellData::Mirror(mirrored) => seen.is_live(mirrored.value()),
-        CellData::Message { sel, args } => seen.has_elements_for(*sel, args.value()),
+        CellData::Mirror(mirrored) => seen.is_live(*mirrored),
+        CellData::Message { sel, args } => seen.has_elements_for(*sel, *args),
     }
 }
 

@@ -31,12 +31,7 @@ pub fn first_fault(
     requires fits { Fits code.now }
     ensures { IfOk result (λ fault. fault ≡ fault_of code.now frozen.now) }
 {
-    let seen = seen_fitting(
-        alloc,
-        code,
-        frozen.cells.as_slice(),
-        frozen.frames.as_slice(),
-    )?;
+    let seen = seen_fitting(alloc, code, &frozen.cells, frozen.frames.as_slice())?;
     let fault = fault_among(alloc, &seen, frozen)?;
     Ok(fault)
 }
@@ -75,12 +70,7 @@ pub fn first_bad_cell(
     requires fits { Fits code.now }
     ensures { IfOk result (λ place. place ≡ bad_cell code.now (heap_thawed code.now frozen.now.cells) frozen.now) }
 {
-    let seen = seen_fitting(
-        alloc,
-        code,
-        frozen.cells.as_slice(),
-        frozen.frames.as_slice(),
-    )?;
+    let seen = seen_fitting(alloc, code, &frozen.cells, frozen.frames.as_slice())?;
     let place = bad_cell(alloc, &seen, frozen)?;
     Ok(place)
 }

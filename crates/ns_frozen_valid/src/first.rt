@@ -145,7 +145,7 @@ fn size(cell: First) -> u64
 }
 
 /// Whether a cell stands where cells of the start are to come, or texts and then an array, or any cell but a facet.
-pub fn stands_first(first: &[First], arguments: bool, cell: &CellData) -> bool
+pub fn stands_first(first: &[First], arguments: bool, cell: &CellData<'_>) -> bool
     ensures { (code : CodeProgram) → result ≡ spec.stands_first (map own.first_shown first.now) arguments (cell_thawed code [] cell.now) }
 {
     match first {
@@ -161,7 +161,7 @@ pub fn stands_first(first: &[First], arguments: bool, cell: &CellData) -> bool
 }
 
 /// Whether a cell is one of the start: that facet, or the class of that top-level declaration over the kernel's class Object.
-fn is_standing(first: First, cell: &CellData) -> bool
+fn is_standing(first: First, cell: &CellData<'_>) -> bool
     ensures { (code : CodeProgram) → result ≡ spec.is_standing (own.first_shown first) (cell_thawed code [] cell.now) }
 {
     match (first, cell) {
@@ -174,10 +174,7 @@ fn is_standing(first: First, cell: &CellData) -> bool
                 holder,
                 over,
             },
-        ) => decl == *other
-            && is_nil(encl.value())
-            && is_nil(holder.value())
-            && is_object_class(over.value()),
+        ) => decl == *other && is_nil(*encl) && is_nil(*holder) && is_object_class(*over),
         _ => false,
     }
 }
@@ -197,7 +194,7 @@ fn facet_number(kind: FacetKind) -> u8
 }
 
 /// Whether a cell is a text or an array.
-fn is_argument(cell: &CellData) -> bool
+fn is_argument(cell: &CellData<'_>) -> bool
     ensures { (code : CodeProgram) → result ≡ spec.is_argument (cell_thawed code [] cell.now) }
 {
     match cell {
@@ -208,7 +205,7 @@ fn is_argument(cell: &CellData) -> bool
 }
 
 /// Whether a cell is no facet.
-fn is_no_facet(cell: &CellData) -> bool
+fn is_no_facet(cell: &CellData<'_>) -> bool
     ensures { (code : CodeProgram) → result ≡ is_no_facet (cell_thawed code [] cell.now) }
 {
     match cell {
@@ -228,7 +225,7 @@ pub fn behind_first(first: &[First]) -> &[First]
 }
 
 /// Whether texts and an array are to come behind a cell.
-pub fn arguments_behind(first: &[First], arguments: bool, cell: &CellData) -> bool
+pub fn arguments_behind(first: &[First], arguments: bool, cell: &CellData<'_>) -> bool
     ensures { (code : CodeProgram) → result ≡ spec.arguments_behind (map own.first_shown first.now) arguments (cell_thawed code [] cell.now) }
 {
     match (first, cell) {

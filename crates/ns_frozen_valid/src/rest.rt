@@ -55,8 +55,9 @@ fn cells_used(seen: &Seen<'_>) -> u128
     ensures { result ≡ heap_size (heap_of seen.now) }
 {
     let mut used: u128 = 0;
-    'cells: for cell in seen.cells {
-        used += u128::from(size(cell));
+    'cells: for place in 0..seen.cells.len() {
+        let cell = seen.cells.at(place);
+        used += u128::from(size(&cell));
     }
     used
 }

@@ -6,7 +6,8 @@ ghost use Rattle.ns_handed.specs.Laid as spec;
 use crate::value::Hand;
 use ns_base::no_memory::NoMemory;
 use ns_base::text::Text;
-use ns_frozen::cell::CellData;
+use ns_frozen::pools::NewData;
+use ns_frozen::stored::CellsMaker;
 use ns_world::value::Value;
 use std::alloc::Global;
 
@@ -71,36 +72,25 @@ fn value_from(next: u64, hand: Hand) -> Value
 }
 
 /// Puts the cells of all behind others; their bytes lie one behind the other.
-pub fn put_cells(
-    alloc: Global,
-    cells: &mut Vec<CellData>,
-    texts: &[u8],
-    hands: &[Hand],
-) -> Result<(), NoMemory>
-    ensures { OnOk result (cells.new.items ≡ cells.old.items ++ spec.cells_from texts.now hands.now) }
+pub fn put_cells(cells: &mut CellsMaker, texts: &[u8], hands: &[Hand]) -> Result<(), NoMemory>
+    ensures { OnOk result (cells.new.cells ≡ cells.old.cells ++ spec.cells_from texts.now hands.now) }
 {
     let mut rest = texts;
     for hand in hands {
-        put_cell(alloc, cells, rest, *hand)?;
+        put_cell(cells, rest, *hand)?;
         rest = bytes_behind(rest, *hand);
     }
     Ok(())
 }
 
 /// Puts the cell of one, whose bytes are the first of these.
-fn put_cell(
-    alloc: Global,
-    cells: &mut Vec<CellData>,
-    bytes: &[u8],
-    hand: Hand,
-) -> Result<(), NoMemory>
-    ensures { OnOk result (cells.new.items ≡ cells.old.items ++ spec.cell_from bytes.now hand) }
+fn put_cell(cells: &mut CellsMaker, bytes: &[u8], hand: Hand) -> Result<(), NoMemory>
+    ensures { OnOk result (cells.new.cells ≡ cells.old.cells ++ spec.cell_from bytes.now hand) }
 {
     match hand {
         Hand::Text(size) => {
-            let text = Text::of(alloc, bytes.split_at(bytes.len().min(size as usize)).0)?;
-            cells.push(CellData::Text(text))?;
-            Ok(())
+            let (text, _) = bytes.split_at(bytes.len().min(size as usize));
+            cells.put(NewData::Text(text))
         }
         Hand::Given(_) => Ok(()),
         Hand::Nothing => Ok(()),

@@ -1,6 +1,6 @@
 //! The array of the arguments, which follows the cells with which each run starts and the texts of the arguments.
 
-ghost use Rattle.std.specs.Prelude.{◌≡◌, ◌+◌, ◌*◌, ◌≤◌, length, unwrap_or};
+ghost use Rattle.std.specs.Prelude.{◌≡◌, ◌+◌, ◌*◌, ◌≤◌, drop, length, unwrap_or};
 ghost use Rattle.ns_moves.specs.Start.{facet_if, facets_of, tops_of, standing_cells, size_of_cells};
 ghost use Rattle.ns_frozen.specs.Thawing.{heap_thawed, arguments_in};
 ghost use Rattle.ns_moves.specs.Valid.{BeginsWith};
@@ -13,10 +13,11 @@ use ns_code::program::CodeProgram;
 use ns_facets::row::Grants;
 use ns_frozen::cell::CellData;
 use ns_frozen::laws::cells_freeze_back;
+use ns_frozen::stored::Cells;
 
 /// The number of the array, 0 where there is none.
 #[tactic(auto, using(crate::proofs::Arrays::arguments_are, crate::proofs::Arrays::standing_count, crate::proofs::Arrays::texts_within))]
-pub fn arguments_in(code: &CodeProgram, grants: Grants, cells: &[CellData]) -> u32
+pub fn arguments_in(code: &CodeProgram, grants: Grants, cells: &Cells) -> u32
     requires begins { BeginsWith (standing_cells code.now grants) (heap_thawed code.now cells.now) }
     requires small { heap_size (heap_thawed code.now cells.now) ≤ 64000000 }
     requires classes { length code.now.classes ≤ 4294967295 }
@@ -25,8 +26,7 @@ pub fn arguments_in(code: &CodeProgram, grants: Grants, cells: &[CellData]) -> u
     cells_freeze_back();
     let facets = facets(grants);
     let tops = tops(code.classes.as_slice());
-    let (_, behind) = cells.split_at(facets + tops);
-    array_behind(facets as u64 + 4 * tops as u64, behind)
+    array_behind(facets as u64 + 4 * tops as u64, cells, facets + tops)
 }
 
 /// How many facets a run starts with.
@@ -64,15 +64,15 @@ fn tops(classes: &[ClassCode]) -> usize
     count
 }
 
-/// The number of the array behind texts, of cells that begin at that number; 0 where there is none.
-fn array_behind(first: u64, cells: &[CellData]) -> u32
-    requires { first + texts_size cells.now ≤ 4294967295 }
-    ensures { result ≡ unwrap_or (data_behind first cells.now) 0 }
+/// The number of the array behind texts, of the cells from a place on, which begin at that number; 0 where there is none.
+fn array_behind(first: u64, cells: &Cells, from: usize) -> u32
+    requires { first + texts_size (drop from cells.now) ≤ 4294967295 }
+    ensures { result ≡ unwrap_or (data_behind first (drop from cells.now)) 0 }
 {
     let mut at = first;
-    'texts: for cell in cells {
-        match cell {
-            CellData::Text(text) => at += 1 + (text.bytes().len() as u64 + 7) / 8,
+    'texts: for place in from..cells.len() {
+        match cells.at(place) {
+            CellData::Text(text) => at += 1 + (text.len() as u64 + 7) / 8,
             CellData::Array(_) => return at as u32,
             _ => return 0,
         }

@@ -4,6 +4,7 @@ ghost use Rattle.std.specs.Prelude.{◌≡◌, ◌+◌, ◌<◌, ◌≤◌, ◌�
 ghost use Rattle.ns_moves.specs.Room.{HasCellRoom};
 ghost use Rattle.ns_frozen.specs.declared.cell.CellData.TheVariants.{Class as ClassData};
 ghost use Rattle.ns_frozen.specs.Thawing.{cell_thawed, cells_onto};
+ghost use Rattle.ns_world.specs.declared.cell.NewCell.TheVariants as new;
 ghost use Rattle.ns_world.specs.Cell.{ObjectCell, EnvironmentCell, ArrayCell, TextCell, cell_size, fresh};
 ghost use Rattle.ns_world.specs.Heap.{heap_size, is_superclass, has_superclass, no_class};
 ghost use Rattle.ns_world.specs.Layout.{entries_above, entries_of};
@@ -13,26 +14,28 @@ ghost use Rattle.ns_machine_thaw.specs.Cells.{CellsFit, CellIsPut, StandsOver, E
 use ns_code::program::CodeProgram;
 use ns_frozen::cell::CellData;
 use ns_frozen::plain::PlainValue;
+use ns_frozen::stored::Cells;
 use ns_world::cell::NewCell;
 use ns_world::value::Value;
 use ns_world::world::World;
 
 /// Makes cells in their order, behind those that are there. Each then has its number: the sum of the sizes of those
 /// before it.
-pub fn put_cells(world: &mut World, code: &CodeProgram, cells: &[CellData])
+pub fn put_cells(world: &mut World, code: &CodeProgram, cells: &Cells)
     requires room { HasCellRoom world.old }
     requires fit { CellsFit code.now world.old.world.limits.cells (cells_onto code.now world.old.world.cells cells.now) }
     ensures world { world.new.world ≡ record world.old.world { cells = cells_onto code.now world.old.world.cells cells.now } }
     ensures room { SameRoom world.old world.new }
 {
-    'cells: for cell in cells {
-        put_cell(world, code, cell);
+    'cells: for place in 0..cells.len() {
+        let cell = cells.at(place);
+        put_cell(world, code, &cell);
     }
 }
 
 /// Makes a cell. What it refers to may stand behind it; but its superclass, where it is a class.
 #[tactic(auto, using(crate::proofs::Fitting::last_superclass, crate::proofs::Fitting::last_within, crate::proofs::Fitting::last_small))]
-fn put_cell(world: &mut World, code: &CodeProgram, cell: &CellData)
+fn put_cell(world: &mut World, code: &CodeProgram, cell: &CellData<'_>)
     requires room { HasCellRoom world.old }
     requires fit { CellsFit code.now world.old.world.limits.cells (cell_thawed code.now world.old.world.cells cell.now ∷ world.old.world.cells) }
     ensures { CellIsPut (cell_thawed code.now world.old.world.cells cell.now) world.old world.new }
@@ -44,44 +47,41 @@ fn put_cell(world: &mut World, code: &CodeProgram, cell: &CellData)
             encl,
             holder,
             over,
-        } => put_class(
-            world,
-            code,
-            *decl,
-            encl.value(),
-            holder.value(),
-            over.value(),
-        ),
+        } => put_class(world, code, *decl, *encl, *holder, *over),
         CellData::Block {
             body,
             env,
             home,
             receiver,
             holder,
-        } => put_fresh(
-            world,
-            NewCell::Block {
-                body: *body,
-                env: env.value(),
-                home: *home,
-                receiver: receiver.value(),
-                holder: *holder,
-            },
-        ),
+        } => put_fresh(world, new_block(*body, *env, *receiver, *holder, *home)),
         CellData::Environment { parent, locals } => {
-            put_environment(world, parent.value(), locals.as_slice())
+            put_environment(world, *parent, locals.as_slice())
         }
         CellData::Array(items) => put_array(world, items.as_slice()),
-        CellData::Text(text) => put_text(world, text.bytes()),
+        CellData::Text(text) => put_text(world, text.as_slice()),
         CellData::Facet(kind) => put_fresh(world, NewCell::Facet(*kind)),
-        CellData::Mirror(mirrored) => put_fresh(world, NewCell::Mirror(mirrored.value())),
+        CellData::Mirror(mirrored) => put_fresh(world, NewCell::Mirror(*mirrored)),
         CellData::Message { sel, args } => put_fresh(
             world,
             NewCell::Message {
                 sel: *sel,
-                args: args.value(),
+                args: *args,
             },
         ),
+    }
+}
+
+/// A block with these parts.
+fn new_block(body: u32, env: Value, receiver: Value, holder: u32, home: u64) -> NewCell
+    ensures { result ≡ new.Block body env home receiver holder }
+{
+    NewCell::Block {
+        body,
+        env,
+        home,
+        receiver,
+        holder,
     }
 }
 

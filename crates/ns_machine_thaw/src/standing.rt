@@ -87,7 +87,7 @@ fn go_on(code: &CodeProgram, core: &Core, at: Registers, frozen: &Frozen) -> Tha
 {
     match core.phase {
         Phase::Start => Thawed::Unbegun {
-            arguments: arguments_in(code, frozen.grants, frozen.cells.as_slice()),
+            arguments: arguments_in(code, frozen.grants, &frozen.cells),
         },
         Phase::First { .. } | Phase::Second | Phase::Hosted => Thawed::Begun(Next::On(at)),
     }

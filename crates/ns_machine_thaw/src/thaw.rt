@@ -80,7 +80,7 @@ fn phase_of(code: &CodeProgram, frozen: &Frozen) -> Phase
     match frozen.phase {
         0 => Phase::Start,
         1 => Phase::First {
-            arguments: arguments_in(code, frozen.grants, frozen.cells.as_slice()),
+            arguments: arguments_in(code, frozen.grants, &frozen.cells),
         },
         2 => Phase::Second,
         _ => Phase::Hosted,

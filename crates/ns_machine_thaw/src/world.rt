@@ -22,7 +22,7 @@ pub fn put_world(world: &mut World, code: &CodeProgram, frozen: &Frozen)
     ensures room { SameRoom world.old world.new }
 {
     world.clear();
-    put_cells(world, code, frozen.cells.as_slice());
+    put_cells(world, code, &frozen.cells);
     put_output(world, frozen.output.bytes());
     world.resume(frozen.used.steps, frozen.used.depth);
 }

@@ -3,9 +3,9 @@
 ghost use Rattle.std.specs.Prelude.{◌≡◌, IfOk};
 ghost use Rattle.ns_opened.specs.Laid as spec;
 
-use ns_base::items::Items;
 use ns_base::no_memory::NoMemory;
 use ns_frozen::frozen::Frozen;
+use ns_frozen::stored::Cells;
 use ns_handed::lay::{is_within, put_cells};
 use ns_handed::value::Hand;
 use ns_machine::machine::Machine;
@@ -55,7 +55,7 @@ fn frozen_with(
     ensures { IfOk result (λ state. state ≡ spec.frozen_with behind hands.now texts.now machine.now) }
 {
     let frozen = machine.freeze(alloc)?;
-    laid(alloc, behind, hands, texts, frozen)
+    laid(behind, hands, texts, frozen)
 }
 
 /// Puts a program where that state stands, if it is one in which a run can be.
@@ -70,13 +70,7 @@ fn stand_at(alloc: Global, machine: &mut Machine, frozen: &Frozen) -> Result<boo
 }
 
 /// A state with the texts behind its cells, of which that many are used then.
-fn laid(
-    alloc: Global,
-    behind: u64,
-    hands: &[Hand],
-    texts: &[u8],
-    frozen: Frozen,
-) -> Result<Frozen, NoMemory>
+fn laid(behind: u64, hands: &[Hand], texts: &[u8], frozen: Frozen) -> Result<Frozen, NoMemory>
     ensures { IfOk result (λ state. state ≡ spec.laid behind hands.now texts.now frozen) }
 {
     let Frozen {
@@ -92,8 +86,8 @@ fn laid(
         cells,
         frames,
     } = frozen;
-    let mut cells = cells.into_vec();
-    put_cells(alloc, &mut cells, texts, hands)?;
+    let mut made = cells.into_maker();
+    put_cells(&mut made, texts, hands)?;
     Ok(Frozen {
         limits,
         used: Counters {
@@ -109,7 +103,7 @@ fn laid(
         phase,
         pending,
         ending,
-        cells: Items::from_vec(cells),
+        cells: Cells::of(made),
         frames,
     })
 }

@@ -13,6 +13,7 @@ use ns_base::limits::Limits;
 use ns_facets::board::{Board, Plain};
 use ns_facets::row::Grants;
 use ns_frozen::frozen::Frozen;
+use ns_frozen::stored::Cells;
 use ns_image::fault::Fault;
 use ns_image::read::input::Input;
 use ns_world::ending::Counters;
@@ -142,7 +143,7 @@ fn frozen_from(
         phase,
         pending: None,
         ending: None,
-        cells: Items::from_vec(Vec::new(alloc)),
+        cells: Cells::none(alloc),
         frames: Items::from_vec(Vec::new(alloc)),
     };
     match read_pending(alloc, input, &mut state) {

@@ -1,6 +1,6 @@
 //! Cells.
 
-ghost use Rattle.std.specs.Prelude.{◌≡◌, ◌+◌, ◌++◌, ◌∷◌, [], OnOk, length};
+ghost use Rattle.std.specs.Prelude.{◌≡◌, ◌+◌, ◌++◌, ◌∷◌, [], All, OnOk, flat_map, length};
 ghost use Rattle.std.specs.List.{concat};
 ghost use Rattle.ns_code.specs.Fits.{IsShort, IsWord};
 ghost use Rattle.ns_image.specs.Bytes as image;
@@ -14,11 +14,12 @@ use crate::variant::facet_number;
 use ns_base::no_memory::NoMemory;
 use ns_frozen::cell::CellData;
 use ns_frozen::plain::PlainValue;
+use ns_frozen::stored::Cells;
 use ns_image_write::write::output::{put_byte, put_word};
 use ns_world::value::Value;
 
 /// Its number, and what it holds.
-impl Part for CellData {
+impl Part for CellData<'_> {
     ghost layout = { spec.cell };
 
     ghost has_room = { CellHasRoom };
@@ -31,24 +32,24 @@ impl Part for CellData {
                 encl,
                 holder,
                 over,
-            } => measure_class(room, encl.value(), holder.value(), over.value()),
+            } => measure_class(room, *encl, *holder, *over),
             CellData::Block {
                 body: _,
                 env,
                 home: _,
                 receiver,
                 holder: _,
-            } => measure_block(room, env.value(), receiver.value()),
+            } => measure_block(room, *env, *receiver),
             CellData::Environment { parent, locals } => measure_environment(
                 room,
-                parent.value(),
+                *parent,
                 locals.as_slice(),
             ),
             CellData::Array(items) => measure_list(room, 1, items.as_slice()),
-            CellData::Text(text) => measure_text(room, 1, text.bytes()),
+            CellData::Text(text) => measure_text(room, 1, text.as_slice()),
             CellData::Facet(_) => room.take(2),
-            CellData::Mirror(mirrored) => measure_value(room, 1, mirrored.value()),
-            CellData::Message { sel: _, args } => measure_value(room, 5, args.value()),
+            CellData::Mirror(mirrored) => measure_value(room, 1, *mirrored),
+            CellData::Message { sel: _, args } => measure_value(room, 5, *args),
         }
     }
 
@@ -60,26 +61,67 @@ impl Part for CellData {
                 encl,
                 holder,
                 over,
-            } => put_class(out, *decl, encl.value(), holder.value(), over.value()),
+            } => put_class(out, *decl, *encl, *holder, *over),
             CellData::Block {
                 body,
                 env,
                 home,
                 receiver,
                 holder,
-            } => put_block(out, *body, env.value(), *home, receiver.value(), *holder),
+            } => put_block(out, *body, *env, *home, *receiver, *holder),
             CellData::Environment { parent, locals } => put_environment(
                 out,
-                parent.value(),
+                *parent,
                 locals.as_slice(),
             ),
             CellData::Array(items) => put_array(out, items.as_slice()),
-            CellData::Text(text) => put_literal(out, text.bytes()),
+            CellData::Text(text) => put_literal(out, text.as_slice()),
             CellData::Facet(kind) => with_byte(out, 6, facet_number(*kind)),
-            CellData::Mirror(mirrored) => put_mirror(out, mirrored.value()),
-            CellData::Message { sel, args } => put_message(out, sel.0, args.value()),
+            CellData::Mirror(mirrored) => put_mirror(out, *mirrored),
+            CellData::Message { sel, args } => put_message(out, sel.0, *args),
         }
     }
+}
+
+/// Takes the bytes of cells behind their count.
+pub fn measure_cells(room: &mut Room, cells: &Cells) -> Result<(), TooLarge>
+    ensures { Takes (length (image.counted spec.cell cells.now)) room.old.left result room.new.left }
+{
+    room.take(4)?;
+    measure_each(room, cells)
+}
+
+/// Takes the bytes of each cell.
+fn measure_each(room: &mut Room, cells: &Cells) -> Result<(), TooLarge>
+    ensures { Takes (length (flat_map spec.cell cells.now)) room.old.left result room.new.left }
+{
+    'cells: for place in 0..cells.len() {
+        let cell = cells.at(place);
+        cell.measure(room)?;
+    }
+    Ok(())
+}
+
+/// Puts cells behind their count.
+pub fn put_cells(out: &mut Vec<u8>, cells: &Cells) -> Result<(), NoMemory>
+    requires cells { All CellHasRoom cells.now }
+    requires short { IsWord (length cells.now) }
+    ensures { OnOk result (out.new.items ≡ out.old.items ++ image.counted spec.cell cells.now) }
+{
+    put_word(out, cells.len() as u32)?;
+    put_each(out, cells)
+}
+
+/// Puts cells one behind the other.
+fn put_each(out: &mut Vec<u8>, cells: &Cells) -> Result<(), NoMemory>
+    requires { All CellHasRoom cells.now }
+    ensures { OnOk result (out.new.items ≡ out.old.items ++ flat_map spec.cell cells.now) }
+{
+    'cells: for place in 0..cells.len() {
+        let cell = cells.at(place);
+        cell.put(out)?;
+    }
+    Ok(())
 }
 
 /// Takes so many bytes, and those of values behind their count.

@@ -6,7 +6,7 @@ ghost use Rattle.ns_snapshot.specs.Bytes as spec;
 ghost use Rattle.ns_snapshot_write.specs.Room.{StateHasRoom};
 ghost use Rattle.ns_snapshot_write.specs.Segments as segments;
 
-use crate::cell::measure_text;
+use crate::cell::{measure_cells, measure_text, put_cells};
 use crate::output::{put_double, put_text, with_long};
 use crate::part::{Part, measure_all, measure_counted, put_all, put_counted};
 use crate::room::{Room, TooLarge};
@@ -54,7 +54,7 @@ impl Part for Frozen {
         measure_text(room, 9, self.output.bytes())?;
         self.pending.measure(room)?;
         self.ending.measure(room)?;
-        measure_counted(room, self.cells.as_slice())?;
+        measure_cells(room, &self.cells)?;
         measure_counted(room, self.frames.as_slice())
     }
 
@@ -100,7 +100,7 @@ fn put_rest(out: &mut Vec<u8>, frozen: &Frozen) -> Result<(), NoMemory>
 {
     frozen.pending.put(out)?;
     frozen.ending.put(out)?;
-    put_counted(out, frozen.cells.as_slice())?;
+    put_cells(out, &frozen.cells)?;
     put_counted(out, frozen.frames.as_slice())
 }
 

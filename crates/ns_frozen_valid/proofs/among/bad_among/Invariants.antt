@@ -7,8 +7,8 @@ use Rattle.ns_frozen_valid.proofs.among.bad_among.Given as goal
 
 abbrev pub invariant-cells : goal.invariant-cells
 invariant-cells l =
-    (l.place ≡ l.cell-index)
-    × (l.number ≤ 9223372036854775808 * l.cell-index)
-    × IsLeft l.seen.cells.now (drop l.cell-index l.seen.cells.now) l.number
-    × (bad_data_from l.seen.code.now (heap_of l.seen) l.homes (map first_shown l.first) l.arguments l.place l.number (drop l.cell-index l.seen.cells.now)
+    (l.place ≡ l.at)
+    × (l.number ≤ 9223372036854775808 * l.at)
+    × IsLeft l.seen.cells.now (drop l.at l.seen.cells.now) l.number
+    × (bad_data_from l.seen.code.now (heap_of l.seen) l.homes (map first_shown l.first) l.arguments l.place l.number (drop l.at l.seen.cells.now)
     ≡ bad_data_from l.seen.code.now (heap_of l.seen) l.homes (map first_shown l.fn.first) l.fn.arguments 0 0 l.seen.cells.now)

@@ -10,15 +10,15 @@ cells-init c = (omega arith, omega arith)
 
 pub cells-preserved : goal.cells-preserved
 cells-preserved c =
-    let at : sizes_of (drop c.cells.cell-index c.args.seen.now.cells.now)
-    ≡ data_size c.cell-item.result + sizes_of (drop (c.cells.cell-index + 1) c.args.seen.now.cells.now)
-    = ap sizes_of (next_of c.args.seen.now.cells.now c.cells.cell-index c.cell-item.result c.cells-test.true c.cell-item.is) in (
+    let at : sizes_of (drop c.cells.place c.args.seen.now.cells.now)
+    ≡ data_size c.at-cell.result + sizes_of (drop (c.cells.place + 1) c.args.seen.now.cells.now)
+    = ap sizes_of (next_of c.args.seen.now.cells.now c.cells.place c.at-cell.result (omega (arith, c.cells-test.true, c.len-place-end.ensures)) c.at-cell.ensures) in (
       omega (arith, c.cells.invariant.0, c.from-used.ensures, c.size.ensures.few),
       omega (arith, c.cells.invariant.1, at, c.from-used.ensures, c.size.ensures.size),
     )
 
 pub returns : goal.returns
 returns c =
-    let end : sizes_of (drop c.cells.cell-index c.args.seen.now.cells.now) ≡ 0
-    = ap sizes_of (drop_all c.cells.cell-index c.args.seen.now.cells.now (omega (arith, c.cells-test.false))) in
+    let end : sizes_of (drop c.cells.place c.args.seen.now.cells.now) ≡ 0
+    = ap sizes_of (drop_all c.cells.place c.args.seen.now.cells.now (omega (arith, c.cells-test.false, c.len-place-end.ensures))) in
     omega (arith, c.cells.invariant.1, end, size_all c.args.seen.now.code.now [] c.args.seen.now.cells.now)

@@ -1,6 +1,0 @@
-use Rattle.std.proofs.Common.{◌≡◌, take}
-use Rattle.ns_world.specs.Heap.{words_at}
-use Rattle.ns_machine_freeze.proofs.cells.words_of.Given as goal
-
-abbrev pub invariant-reading : goal.invariant-reading
-invariant-reading l = l.words.items ≡ take l.word (words_at l.world.world.cells l.at)
