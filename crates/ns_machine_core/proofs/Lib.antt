@@ -11,6 +11,7 @@ pub mod Turned
 pub mod EntersBodies
 pub mod Environments
 pub mod LocalsDone
+pub mod Outside
 pub mod Enclosed
 pub mod Framed
 pub mod Arguments

@@ -1,13 +1,15 @@
 //! Instructions that read and store locals.
 
-ghost use Rattle.std.specs.Prelude.{◌≡◌, Option, All};
+ghost use Rattle.std.specs.Prelude.{◌≡◌, Option, All, false};
 ghost use Rattle.ns_base.specs.declared.place.Place.{Place as SourcePlace};
 ghost use Rattle.ns_code.specs.declared.instruction.Instr.TheVariants as instr;
 ghost use Rattle.ns_find.specs.Memo.{PlaceIsRight};
 ghost use Rattle.ns_moves.specs.declared.site.Site.{Site};
 ghost use Rattle.ns_moves.specs.Bodies as bodies;
-ghost use Rattle.ns_moves.specs.Running.{activation_at};
-ghost use Rattle.ns_moves.specs.Locals.{HasEnvironments, environments_out};
+ghost use Rattle.ns_moves.specs.Control.{Progress, in_world};
+ghost use Rattle.ns_moves.specs.Room.{SameRest};
+ghost use Rattle.ns_moves.specs.Running.{activation_at, code_of};
+ghost use Rattle.ns_moves.specs.Locals.{HasEnvironments, LocalIsReadable, environments_out};
 ghost use Rattle.ns_machine_frames.specs.Standing.{locals_in};
 ghost use Rattle.ns_machine_frames.specs.Stack.{stood};
 ghost use Rattle.ns_machine_core.specs.declared.state.Next.TheVariants as next;
@@ -21,7 +23,7 @@ use crate::state::Core;
 use ns_code::program::CodeProgram;
 use ns_machine_frames::registers::Registers;
 use ns_machine_frames::stack::Stack;
-use ns_moves::locals::{environment_number, store_local as store_outside};
+use ns_moves::locals::environment_number;
 use ns_moves::run::Run;
 use ns_moves::running::Running;
 use ns_world::value::Value;
@@ -173,14 +175,31 @@ pub fn store_local_of(
         core.stack.set_local(at, u32::from(index), value);
         return at;
     }
-    store_outside(
-        &mut core.run.world,
-        code,
-        &mut core.run.memo,
-        here,
-        hops,
-        index,
-        value,
-    );
+    store_outside(code, &mut core.run, here, top, hops, index, value);
     at
+}
+
+/// Stores a value in a local that stands in an environment.
+#[inline(always)]
+fn store_outside(
+    code: &CodeProgram,
+    run: &mut Run,
+    here: Running,
+    top: OnTop,
+    hops: u8,
+    index: u8,
+    value: Value,
+)
+    requires readable { LocalIsReadable run.old.world.world.cells code.now (code_of here) hops index }
+    requires outside { bodies.is_beside code.now (code_of here) hops ≡ false }
+    requires top { top.environment ≡ bodies.has_environment code.now here.body }
+    requires kept { All (PlaceIsRight run.old.world.world.cells code.now) run.old.memo }
+    ensures stored { (site : Site) (rest : Progress) → in_world rest run.new.world.world
+        ≡ bodies.local_stored code.now (activation_at site here) hops index value (in_world rest run.old.world.world) }
+    ensures rest { SameRest run.old.world run.new.world }
+    ensures others { run.new ≡ record run.old { world = run.new.world; memo = run.new.memo } }
+    ensures keeps { All (PlaceIsRight run.old.world.world.cells code.now) run.new.memo }
+{
+    let at = environment_of(code, run, here, top, hops);
+    run.world.write(at, u32::from(index), value);
 }

@@ -14,7 +14,7 @@ pub mod PartsStay
 pub mod LocalsFit
 pub mod BlocksFit
 pub mod Applying
-pub mod Beside
+pub mod Around
 pub mod Counted
 pub mod Entries
 pub mod Far

@@ -17,3 +17,4 @@ pub mod Bounding
 pub mod Lasting
 pub mod Whole
 pub mod ReadBlocks
+pub mod Parents

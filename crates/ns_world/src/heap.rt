@@ -4,11 +4,11 @@ ghost use Rattle.std.specs.Prelude.{◌≡◌, ℕ, ◌+◌, ◌*◌, ◌^◌, �
 ghost use Rattle.std.specs.Prelude.{slice_index, slice_set, IsTrue, IsSome, OnOk, OnErr, if◌then◌else◌};
 ghost use Rattle.std.specs.List.{slice_index_or};
 ghost use Rattle.ns_world.specs.declared.cell.NewCell.TheVariants as cell;
+ghost use Rattle.ns_world.specs.declared.value.Value.{Value};
 ghost use Rattle.ns_world.specs.Blocks.{IsBlockOf};
 ghost use Rattle.ns_world.specs.Cell.{cell_size, fresh, filled_environment, ArrayCell, TextCell};
-ghost use Rattle.ns_world.specs.Heap.{heap_size, has_superclass, words_at, word_at, open_words_at, write_word, bytes_at, byte_at, row_at};
-ghost use Rattle.ns_world.specs.Heap.{write_byte, find_cell, shape_at, next_number, is_class, chain_of, superclass_of, is_chain_start};
-ghost use Rattle.ns_world.specs.Heap.{declared_class};
+ghost use Rattle.ns_world.specs.Heap.{declared_class, heap_size, has_superclass, words_at, word_at, open_words_at, write_word, bytes_at, byte_at, row_at};
+ghost use Rattle.ns_world.specs.Heap.{write_byte, find_cell, shape_at, next_number, is_class, chain_of, superclass_of, is_chain_start, cell_number};
 ghost use Rattle.ns_world.specs.Head.{head_at};
 ghost use Rattle.ns_world.specs.Starts.{is_receiver_cell};
 ghost use Rattle.ns_world.specs.Words.{shape_in, head_in, value_in, beside_in, words_behind};
@@ -21,7 +21,8 @@ use crate::kernel::NO_CLASS;
 use crate::lay::{lay, lay_bytes, lay_items, lay_locals, text_words};
 use crate::seek::{Sought, is_sought_at};
 use crate::value::Value;
-use crate::word::{Word, beside_in, is_receiver_head, value_in, word_of};
+use crate::values::{set_value, value_at};
+use crate::word::{Word, beside_in, is_receiver_head, number_in, value_in};
 use ns_base::no_memory::NoMemory;
 use std::alloc::Global;
 use std::marker::Model;
@@ -31,8 +32,7 @@ use std::marker::Model;
 pub struct Heap {
     words: Vec<Word>,
     room: u64,
-    /// No cell from here on is the first facet of a kind or the first class of a top-level
-    /// declaration, so that looking for one ends early.
+    /// No cell from here on is the first facet of a kind or the first class of a top-level declaration, so that looking for one ends early.
     firsts_end: usize,
 }
 
@@ -112,8 +112,8 @@ impl Heap {
         number
     }
 
-    /// Makes an environment whose first locals hold these values, and so many others nil, and
-    /// gives its number.
+    /// Makes an environment whose first locals hold these values, and so many others nil, and gives its number.
+    #[inline(always)]
     pub fn make_environment(&mut self, parent: Value, first: &[Value], others: u32) -> u32
         requires room { heap_size self.old.cells + cell_size (filled_environment parent first.now others) ≤ self.old.room }
         requires small { heap_size self.old.cells + cell_size (filled_environment parent first.now others) ≤ 64000000 }
@@ -164,7 +164,7 @@ impl Heap {
         requires { word < length (words_at self.now.cells at) }
         ensures { result ≡ word_at self.now.cells at word }
     {
-        value_in(self.words[at as usize + 1 + word as usize])
+        value_at(&self.words, at as usize + 1 + word as usize)
     }
 
     /// Writes a value of an object, an environment or an array.
@@ -174,7 +174,7 @@ impl Heap {
         ensures cells { self.new ≡ record self.old { cells = write_word self.old.cells at word value } }
         ensures size { heap_size self.new.cells ≡ heap_size self.old.cells }
     {
-        self.words[at as usize + 1 + word as usize] = word_of(value);
+        set_value(&mut self.words, at as usize + 1 + word as usize, value);
     }
 
     /// A byte of a text.
@@ -246,8 +246,16 @@ impl Heap {
         )
     }
 
-    /// What the block of that number was made with, where its self is a cell and around it is an environment or none, as with most.
-    /// Its three words are read as they stand.
+    /// The number of the environment around an environment, 0 where there is none. It stands in the first word.
+    #[inline(always)]
+    pub fn parent(&self, at: u32) -> u32
+        requires { IsSome (find_cell self.now.cells at) }
+        ensures { (parent : Value) (locals : ℕ) → shape_at self.now.cells at ≡ cell.Environment parent locals → result ≡ cell_number parent }
+    {
+        number_in(self.words[at as usize])
+    }
+
+    /// What the block of that number was made with, where its self is a cell and around it is an environment or none: by its three words.
     #[inline(always)]
     pub fn block(&self, at: u32) -> Option<BlockParts>
         requires { IsSome (find_cell self.now.cells at) }

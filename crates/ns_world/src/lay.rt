@@ -1,6 +1,6 @@
 //! Laying cells out in words.
 
-ghost use Rattle.std.specs.Prelude.{◌≡◌, ◌+◌, ◌^◌, ◌<◌, ◌≤◌, ◌∷◌, ◌++◌, map, replicate, length, vec_len};
+ghost use Rattle.std.specs.Prelude.{◌≡◌, ◌+◌, ◌^◌, ◌<◌, ◌≤◌, [], ◌∷◌, ◌++◌, map, replicate, length, vec_len};
 ghost use Rattle.std.specs.Vec.{vec_capacity};
 ghost use Rattle.ns_world.specs.Cell.{cell_size, fresh, text_words, filled_environment, ClassCell, BlockCell, ArrayCell, TextCell};
 ghost use Rattle.ns_world.specs.declared.cell.NewCell.TheVariants.{Object, Environment, Array, Text};
@@ -178,14 +178,51 @@ fn repeat(words: &mut Vec<Word>, count: u64, word: Word)
 }
 
 /// Puts the words of values behind the others.
+#[inline(always)]
 fn put_values(words: &mut Vec<Word>, values: &[Value])
     requires { vec_len words.old + length values.now ≤ vec_capacity words.old }
     ensures items { words.new.items ≡ words.old.items ++ map word_of values.now }
     ensures capacity { vec_capacity words.old ≤ vec_capacity words.new }
 {
     'values: for value in values {
-        words.push_reserved(word_of(*value));
+        put_value(words, value);
     }
+}
+
+/// Puts the word of a value behind the others. Most are Integers or refer to cells.
+#[inline(always)]
+fn put_value(words: &mut Vec<Word>, value: &Value)
+    requires { vec_len words.old + 1 ≤ vec_capacity words.old }
+    ensures items { words.new.items ≡ words.old.items ++ word_of value.now ∷ [] }
+    ensures capacity { vec_capacity words.new ≡ vec_capacity words.old }
+{
+    match value {
+        Value::Int(number) => words.push_reserved(Word::Int(*number)),
+        other => put_other(words, other),
+    }
+}
+
+/// The same by a second question, each of which has two answers: so no jump tells the kinds of values apart.
+#[inline(always)]
+fn put_other(words: &mut Vec<Word>, value: &Value)
+    requires { vec_len words.old + 1 ≤ vec_capacity words.old }
+    ensures items { words.new.items ≡ words.old.items ++ word_of value.now ∷ [] }
+    ensures capacity { vec_capacity words.new ≡ vec_capacity words.old }
+{
+    match value {
+        Value::Ref(at) => words.push_reserved(Word::Ref(*at)),
+        other => put_apart(words, other),
+    }
+}
+
+/// The same for any value, in code of its own.
+#[inline(never)]
+fn put_apart(words: &mut Vec<Word>, value: &Value)
+    requires { vec_len words.old + 1 ≤ vec_capacity words.old }
+    ensures items { words.new.items ≡ words.old.items ++ word_of value.now ∷ [] }
+    ensures capacity { vec_capacity words.new ≡ vec_capacity words.old }
+{
+    words.push_reserved(word_of(*value));
 }
 
 /// Puts the words of an array that holds these values behind the others.
@@ -203,6 +240,7 @@ pub fn lay_items(words: &mut Vec<Word>, items: &[Value])
 
 /// Puts the words of an environment behind the others whose first locals hold these values, and
 /// so many others nil.
+#[inline(always)]
 pub fn lay_locals(words: &mut Vec<Word>, parent: Value, first: &[Value], others: u32)
     requires room { vec_len words.old + (1 + (length first.now + others)) ≤ vec_capacity words.old }
     requires small { length first.now + others < 2 ^ 32 }

@@ -1,6 +1,6 @@
 //! The world of a run: cells, counters, limits and output; and its kernel's rows, in one table.
 //! `specs/World.antt` says what each change makes of a world, and where a charge would pass its limit;
-//! `specs/KernelTable.antt` is the table. Stands between code and classes, find, kernel and actions.
+//! `specs/KernelTable.antt` is the table. Stands between code and classes, find, kernel and moves.
 #![tactic(auto)]
 
 pub mod cell;
@@ -20,5 +20,6 @@ mod lay;
 mod pack;
 mod seek;
 pub mod value;
+mod values;
 mod word;
 pub mod world;

@@ -6,6 +6,7 @@
 //! a block stands the block's holder. These words have variants of their own.
 
 ghost use Rattle.std.specs.Prelude.{◌≡◌};
+ghost use Rattle.ns_world.specs.Heap.{cell_number};
 ghost use Rattle.ns_world.specs.Words.{word_of, word_beside, value_in, beside_in};
 ghost use Rattle.ns_world.specs.Receivers.{is_receiver_head};
 
@@ -93,6 +94,18 @@ pub fn value_in(word: Word) -> Value
         Word::KernelWith { class, .. } => Value::Kernel(class),
         Word::RefWith { at, .. } => Value::Ref(at),
         _ => Value::Nil,
+    }
+}
+
+/// The number of the cell to which the value of a word refers, 0 where it refers to none.
+#[inline(always)]
+pub fn number_in(word: Word) -> u32
+    ensures { result ≡ cell_number (value_in word) }
+{
+    match word {
+        Word::RefWith { at, .. } => at,
+        Word::Ref(at) => at,
+        _ => 0,
     }
 }
 

@@ -3,10 +3,12 @@
 ghost use Rattle.std.specs.Prelude.{◌≡◌, ℕ, ◌+◌, ◌-◌, ◌*◌, ◌<◌, ◌≤◌, [], ◌∷◌, ◌++◌, length, true, false, Some, slice_get, IsTrue, IsSome, OnOk, OnErr};
 ghost use Rattle.ns_base.specs.Limits.{InRange};
 ghost use Rattle.ns_world.specs.declared.ending.LimitKind.TheVariants.{Steps, Depth, Out};
+ghost use Rattle.ns_world.specs.declared.cell.NewCell.TheVariants as cell_is;
+ghost use Rattle.ns_world.specs.declared.value.Value.{Value};
 ghost use Rattle.ns_world.specs.declared.value.Value.TheVariants as value_is;
 ghost use Rattle.ns_world.specs.Blocks.{IsBlockOf};
 ghost use Rattle.ns_world.specs.Cell.{fresh, filled_environment, ArrayCell, TextCell};
-ghost use Rattle.ns_world.specs.Heap.{has_superclass, words_at, word_at, word_of_object, open_words_at, bytes_at, byte_at, row_at, find_cell, shape_at, next_number, is_class, is_chain_start, chain_of, superclass_of};
+ghost use Rattle.ns_world.specs.Heap.{has_superclass, words_at, word_at, word_of_object, open_words_at, bytes_at, byte_at, row_at, find_cell, shape_at, cell_number, next_number, is_class, is_chain_start, chain_of, superclass_of};
 ghost use Rattle.ns_world.specs.Seek.{first_such, is_facet, is_top};
 ghost use Rattle.ns_world.specs.Head.{head_at};
 ghost use Rattle.ns_world.specs.Starts.{has_class, class_name_at, is_receiver, start_of};
@@ -126,6 +128,7 @@ impl World {
 
     /// Makes an environment whose first locals hold these values, and so many others nil, charged
     /// as any cell.
+    #[inline(always)]
     pub fn make_environment(
         &mut self,
         parent: Value,
@@ -234,6 +237,15 @@ impl World {
         ensures { result ≡ shape_at self.now.world.cells at }
     {
         self.heap.cell(at)
+    }
+
+    /// The number of the environment around an environment, 0 where there is none.
+    #[inline(always)]
+    pub fn parent(&self, at: u32) -> u32
+        requires { IsSome (find_cell self.now.world.cells at) }
+        ensures { (parent : Value) (locals : ℕ) → shape_at self.now.world.cells at ≡ cell_is.Environment parent locals → result ≡ cell_number parent }
+    {
+        self.heap.parent(at)
     }
 
     /// What the block of that number was made with, where its self is a cell and around it is an environment or none, as with most.

@@ -1,12 +1,8 @@
--- A local that doesn't stand beside running code.
-use Rattle.std.proofs.Common.{◌≡◌, ℕ, refl, Option, Some, None, Bool, true, false, cond}
+-- A local that stands in an environment.
+use Rattle.std.proofs.Common.{◌≡◌, ℕ, refl, Option, Some, None, true}
 use Rattle.ns_world.specs.Cell.{Cell, ObjectCell, ClassCell, BlockCell, EnvironmentCell, ArrayCell, TextCell, FacetCell, MirrorCell, MessageCell}
 use Rattle.ns_world.specs.Heap.{Heap, find_cell, words_at, open_words_at}
 use Rattle.ns_world.specs.Lawful.{is_environment}
-
--- the second of two, where a test fails
-pub not_taken : {A : Type 0} (b : Bool) (x y : A) → b ≡ false → cond b x y ≡ y
-not_taken b x y e = rw e refl
 
 -- an environment's words may all be written
 pub locals_open : (heap : Heap) (at : ℕ) → is_environment (find_cell heap at) ≡ true → open_words_at heap at ≡ words_at heap at

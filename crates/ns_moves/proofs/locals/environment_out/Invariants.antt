@@ -1,6 +1,0 @@
-use Rattle.std.proofs.Common.{◌≡◌}
-use Rattle.ns_moves.specs.Bodies.{environment_out}
-use Rattle.ns_moves.proofs.locals.environment_out.Given as goal
-
-abbrev pub invariant-out : goal.invariant-out
-invariant-out l = l.at ≡ environment_out l.world.world.cells l.fn.env l._hop
