@@ -114,16 +114,22 @@ fn facet_asked(row: Row) -> Option<FacetKind>
     }
 }
 
-/// The row of Manifest, by its number, for the name of a top-level class that was made.
+/// The row of Manifest, whose number is given, for the name of a top-level class that was made.
 #[tactic(auto, using(crate::proofs::RowSearch::open_allowed))]
-fn top_named(world: &World, code: &CodeProgram, row: u32, sel: Sel, kind: Sending) -> Option<Found>
+fn top_named(
+    world: &World,
+    code: &CodeProgram,
+    manifest: u32,
+    sel: Sel,
+    kind: Sending,
+) -> Option<Found>
     requires { length code.now.classes ≤ 4096 }
-    ensures { result ≡ search code.now sel.0 kind (top_rows world.now.world.cells row 0 code.now.classes) }
+    ensures { result ≡ search code.now sel.0 kind (top_rows world.now.world.cells manifest 0 code.now.classes) }
 {
     let mut number: u32 = 0;
     'classes: for class in code.classes.as_slice() {
         if sel.0 == class.name.0 && class.outer.is_none() && world.top(number).is_some() {
-            return Some(Found::Kernel(row));
+            return Some(Found::Kernel(manifest));
         }
         number += 1;
     }

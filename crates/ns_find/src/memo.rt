@@ -130,7 +130,7 @@ impl Memo {
     }
 }
 
-/// What `find` answers, from the place of this lookup where it is kept there or beside it; else it is made and
+/// What `find` answers, from the place of this lookup where it is kept there or at one that belongs to it; else it is made and
 /// kept. Takes no memory.
 #[inline(always)]
 pub fn find_kept(
@@ -150,12 +150,64 @@ pub fn find_kept(
     let place = place_of(start, sel, kind);
     match memo.kept(place, start, sel, kind) {
         Some(found) => found,
-        None => find_beside(world, code, memo, start, sel, kind, place),
+        None => find_apart(world, code, memo, start, sel, kind, place),
     }
 }
 
-/// The same of a lookup that isn't kept at its place, where another may be: it is kept beside it then. So two lookups that are
-/// made by turns, and have one place, don't drive each other out.
+/// The same of a lookup that isn't kept at its place. Its start and its answer are told anew, case by case, so that neither stands in
+/// memory on the way of a lookup that is kept.
+#[inline(always)]
+fn find_apart(
+    world: &World,
+    code: &CodeProgram,
+    memo: &mut Memo,
+    start: Start,
+    sel: Sel,
+    kind: Sending,
+    place: usize,
+) -> Found
+    requires place { place < 1024 }
+    requires lawful { IsLawful world.now.world code.now }
+    requires start { IsTrue (is_start world.now.world.cells start) }
+    requires kept { All (PlaceIsRight world.now.world.cells code.now) memo.old }
+    ensures found { result ≡ found_from world.now.world.cells code.now start sel.0 kind }
+    ensures keeps { All (PlaceIsRight world.now.world.cells code.now) memo.new }
+{
+    let found = find_beside(world, code, memo, start_anew(start), sel, kind, place);
+    found_anew(found)
+}
+
+/// The same start.
+#[inline(always)]
+fn start_anew(start: Start) -> Start
+    ensures { result ≡ start }
+{
+    match start {
+        Start::Instance(class) => Start::Instance(class),
+        Start::ClassSide { class, factory } => Start::ClassSide { class, factory },
+        Start::Kernel(row) => Start::Kernel(row),
+    }
+}
+
+/// The same answer.
+#[inline(always)]
+fn found_anew(found: Found) -> Found
+    ensures { result ≡ found }
+{
+    match found {
+        Found::Method { body, holder } => Found::Method { body, holder },
+        Found::Getter { holder, word } => Found::Getter { holder, word },
+        Found::Setter { holder, word } => Found::Setter { holder, word },
+        Found::Nested { class, holder } => Found::Nested { class, holder },
+        Found::Factory { class } => Found::Factory { class },
+        Found::Kernel(number) => Found::Kernel(number),
+        Found::NotPublic => Found::NotPublic,
+        Found::Absent => Found::Absent,
+    }
+}
+
+/// The same of a lookup that isn't kept at its place, where another may be: it is kept beside it then, or at the two places opposite.
+/// So four lookups that are made by turns, and have one place, don't drive each other out.
 #[inline(never)]
 fn find_beside(
     world: &World,
@@ -175,10 +227,36 @@ fn find_beside(
 {
     match memo.kept(beside(place), start, sel, kind) {
         Some(found) => found,
-        None => {
-            let free = free_place(memo, place);
-            find_anew(world, code, memo, start, sel, kind, free)
-        }
+        None => find_opposite(world, code, memo, start, sel, kind, place),
+    }
+}
+
+/// The same of a lookup that isn't kept beside its place either.
+fn find_opposite(
+    world: &World,
+    code: &CodeProgram,
+    memo: &mut Memo,
+    start: Start,
+    sel: Sel,
+    kind: Sending,
+    place: usize,
+) -> Found
+    requires place { place < 1024 }
+    requires lawful { IsLawful world.now.world code.now }
+    requires start { IsTrue (is_start world.now.world.cells start) }
+    requires kept { All (PlaceIsRight world.now.world.cells code.now) memo.old }
+    ensures found { result ≡ found_from world.now.world.cells code.now start sel.0 kind }
+    ensures keeps { All (PlaceIsRight world.now.world.cells code.now) memo.new }
+{
+    match memo.kept(opposite(place), start, sel, kind) {
+        Some(found) => found,
+        None => match memo.kept(beside(opposite(place)), start, sel, kind) {
+            Some(found) => found,
+            None => {
+                let free = free_place(memo, place);
+                find_anew(world, code, memo, start, sel, kind, free)
+            }
+        },
     }
 }
 
@@ -212,7 +290,7 @@ fn find_anew(
     found
 }
 
-/// Where a lookup of that place is to be kept: there, or beside it where another is kept there.
+/// Where a lookup of that place is to be kept: there, or at the first of the three others that keeps nothing, or at the last of them.
 fn free_place(memo: &Memo, place: usize) -> usize
     requires { place < 1024 }
     ensures { result < 1024 }
@@ -220,7 +298,13 @@ fn free_place(memo: &Memo, place: usize) -> usize
     if memo.is_free(place) {
         return place;
     }
-    beside(place)
+    if memo.is_free(beside(place)) {
+        return beside(place);
+    }
+    if memo.is_free(opposite(place)) {
+        return opposite(place);
+    }
+    beside(opposite(place))
 }
 
 /// The place beside one: each two are beside each other.
@@ -230,6 +314,15 @@ fn beside(place: usize) -> usize
     ensures { result < 1024 }
 {
     if place % 2 == 0 { place + 1 } else { place - 1 }
+}
+
+/// The place two further or two before, so that with those beside each of them each four belong together.
+#[inline(always)]
+fn opposite(place: usize) -> usize
+    requires { place < 1024 }
+    ensures { result < 1024 }
+{
+    if place % 4 < 2 { place + 2 } else { place - 2 }
 }
 
 /// The answer of a lookup that is kept, if it is this lookup.

@@ -6,5 +6,5 @@ use Rattle.ns_find.proofs.kernel.top_named.Given as goal
 abbrev pub invariant-classes : goal.invariant-classes
 invariant-classes l =
     (l.number ≡ l.class-index)
-    × (search l.code l.sel.0 l.fn.kind (top_rows l.world.world.cells l.row l.number (drop l.class-index l.class-items))
-    ≡ search l.code l.sel.0 l.fn.kind (top_rows l.world.world.cells l.row 0 l.class-items))
+    × (search l.code l.sel.0 l.fn.kind (top_rows l.world.world.cells l.manifest l.number (drop l.class-index l.class-items))
+    ≡ search l.code l.sel.0 l.fn.kind (top_rows l.world.world.cells l.manifest 0 l.class-items))
