@@ -13,3 +13,4 @@ pub mod Privately
 pub mod BooleanSends
 pub mod Heads
 pub mod Evaluating
+pub mod Keeping

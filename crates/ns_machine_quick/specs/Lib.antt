@@ -4,6 +4,7 @@ pub mod Integers
 pub mod Booleans
 pub mod Looping
 pub mod Opening
+pub mod Nested
 pub mod Rows
 pub mod Blocks
 pub mod Values

@@ -10,13 +10,14 @@ ghost use Rattle.ns_world.specs.Starts.{start_of};
 ghost use Rattle.ns_find.specs.declared.found.Found.TheVariants as found_is;
 ghost use Rattle.ns_machine_plan.specs.Steps.{send_instr};
 ghost use Rattle.ns_machine_core.specs.Doing.{CanDo};
-ghost use Rattle.ns_machine_core.specs.Tried.{led_on, LeadsOrChangesNothing};
+ghost use Rattle.ns_machine_core.specs.Tried.{led_on, led_charged, LeadsOrChangesNothing};
 ghost use Rattle.ns_machine_sends.specs.Operands.{SendsOperands};
 ghost use Rattle.ns_machine_quick.specs.Below.{receiver_below, BelowLeads, CanSendBelow, FindsBelow};
 ghost use Rattle.ns_machine_quick.specs.Given.{ToTopLeads};
 
 use crate::blocks::is_block;
 use crate::looping::{loops, send_looping};
+use crate::nested::send_nested;
 use crate::objects::{class_of_object, found_in};
 use crate::opening::send_method;
 use crate::receiving::{named, receiver_below, sent_below};
@@ -146,6 +147,7 @@ fn do_found(
         Found::Getter { holder, word } => do_getter(code, core, at, send, holder, word),
         Found::Setter { holder, word } => do_setter(code, core, at, send, holder, word),
         Found::Kernel(number) => do_row(code, core, at, send, number),
+        Found::Nested { class, holder } => do_nested(code, core, at, send, class, holder),
         _ => Led::Nowhere,
     }
 }
@@ -186,6 +188,45 @@ fn do_setter(
     let receiver = receiver_below(&core.stack, at, send.argc);
     let sent = sent_below(code, core, at, send);
     led_charged(send_setter(code, core, at, sent, receiver, send.kind, holder, word))
+}
+
+/// Brings the nested class that was found, where the object keeps it.
+#[inline(always)]
+fn do_nested(
+    code: &CodeProgram,
+    core: &mut Core,
+    at: Registers,
+    send: &ValueSend,
+    class: u32,
+    holder: u32,
+) -> Led
+    requires can { CanSendBelow code.now core.old at send.now }
+    requires finds { FindsBelow code.now core.old at send.now (found_is.Nested class holder) }
+    ensures { BelowLeads code.now core.old at send.now core.new result }
+{
+    led_charged(nested_apart(code, core, at.next, at.top, at.base, send, class, holder))
+}
+
+/// The same in code of its own.
+#[inline(never)]
+fn nested_apart(
+    code: &CodeProgram,
+    core: &mut Core,
+    next: u32,
+    top: u32,
+    base: u32,
+    send: &ValueSend,
+    class: u32,
+    holder: u32,
+) -> Option<Registers>
+    requires can { CanSendBelow code.now core.old (record { next = next; top = top; base = base }) send.now }
+    requires finds { FindsBelow code.now core.old (record { next = next; top = top; base = base }) send.now (found_is.Nested class holder) }
+    ensures { BelowLeads code.now core.old (record { next = next; top = top; base = base }) send.now core.new (led_charged result) }
+{
+    let at = Registers { next, top, base };
+    let receiver = receiver_below(&core.stack, at, send.argc);
+    let sent = sent_below(code, core, at, send);
+    send_nested(code, core, at, sent, receiver, send.kind, class, holder)
 }
 
 /// Begins the method that was found.

@@ -10,6 +10,7 @@ pub mod booleans;
 pub mod giving;
 pub mod integers;
 mod looping;
+mod nested;
 mod objects;
 mod opening;
 pub mod private;
