@@ -13,10 +13,11 @@ use Rattle.ns_machine_frames.specs.View.{state_shown}
 use Rattle.ns_machine_core.specs.declared.own.OwnSends.{OwnSends}
 use Rattle.ns_machine_core.specs.declared.state.Core.{Core}
 use Rattle.ns_machine_core.specs.declared.state.Next.{Next}
-use Rattle.ns_machine_core.specs.declared.state.Next.TheVariants.{On, Waits}
+use Rattle.ns_machine_core.specs.declared.state.Next.TheVariants.{On, Waits, Ended}
 use Rattle.ns_machine_core.specs.Shown.{phase_shown, progress_in, shown}
 use Rattle.ns_machine_core.specs.Ready.{MakesMove, MovesKeepReady}
-use Rattle.ns_machine_turns.specs.Turning.{steps_left, RunsBy, IsTurning, GoesAlong, HasGone, MovesGoAlong}
+use Rattle.ns_machine_turns.specs.Turning.{steps_left, ChargesAtMost, RunsBy, IsTurning, GoesAlong, HasGone, HasGoneOnce, MovesGoAlong, MovesChargeOne}
+use Rattle.ns_machine_turns.specs.Ways.{HasLed, way_of}
 use Rattle.ns_machine_turns.proofs.Turned.{Known, runs_on, turning_on, counted, left_is, since_begun}
 
 -- what is known of moves of a machine
@@ -44,7 +45,7 @@ none_gone code plan sends left old from runs =
 module _ (code : CodeProgram) (all : KnownMoves code) (plan : Plan) (sends : OwnSends) (left : ℕ) (old : Core) (from : Next) where
   module _ (goes : is_still (shown code old from) ≡ false) (now new : Core) (here next : Next) (on : is_still (shown code now here) ≡ false)
       (few : now.run.world.world.steps - old.run.world.world.steps < left) (moved : MakesMove code now here new next) where
-    some_left : (steps : ℕ) (first : Core) (began : Next) → left ≡ steps_left steps (shown code first began) (shown code old from)
+    some_left : (steps : ℕ) (first : Core) (began : Next) → left ≤ steps_left steps (shown code first began) (shown code old from)
         → IsTurning code steps first began old from → 1 ≤ steps_left steps (shown code first began) (shown code now here)
     some_left steps first began e turning =
         let since = since_begun code steps first old began from goes turning.under in
@@ -72,21 +73,21 @@ module _ (code : CodeProgram) (all : KnownMoves code) (plan : Plan) (sends : Own
       falls = falls_on along;
     }
 
--- Moves that led on with the steps that were left then, of those with which others had led there, have led on from where those began.
-module _ (code : CodeProgram) (plan : Plan) (sends : OwnSends) (left : ℕ) (old now new : Core) (from here next : Next) where
+-- Moves that led on with no more steps than were left then, of those with which others had led there, have led on from where those began.
+module _ (code : CodeProgram) (plan : Plan) (sends : OwnSends) (left some : ℕ) (old now new : Core) (from here next : Next)
+    (few : some ≤ left - (now.run.world.world.steps - old.run.world.world.steps)) where
   left_there : GoesAlong code plan sends left old from now here → is_still (shown code old from) ≡ false → (steps : ℕ) (first : Core) (began : Next)
-      → left ≡ steps_left steps (shown code first began) (shown code old from) → IsTurning code steps first began old from
-      → left - (now.run.world.world.steps - old.run.world.world.steps) ≡ steps_left steps (shown code first began) (shown code now here)
+      → left ≤ steps_left steps (shown code first began) (shown code old from) → IsTurning code steps first began old from
+      → some ≤ steps_left steps (shown code first began) (shown code now here)
   left_there along goes steps first began e turning =
       let since = since_begun code steps first old began from goes turning.under in
       let a = left_is code steps first old began from in
       let b = left_is code steps first now began here in
       let on = along.onward in
-      omega (arith, e, since, a, b, on)
+      omega (arith, e, since, a, b, on, few)
 
   pub gone_far : GoesAlong code plan sends left old from now here → is_still (shown code old from) ≡ false
-      → HasGone code plan sends (left - (now.run.world.world.steps - old.run.world.world.steps)) now here new next
-      → HasGone code plan sends left old from new next
+      → HasGone code plan sends some now here new next → HasGone code plan sends left old from new next
   gone_far along goes gone = record {
     along = record {
       runs = gone.along.runs;
@@ -98,13 +99,14 @@ module _ (code : CodeProgram) (plan : Plan) (sends : OwnSends) (left : ℕ) (old
     falls = let a = along.lower in let b = gone.falls in omega (arith, a, b);
   }
 
--- The same, where so many were left.
-pub gone_since : (code : CodeProgram) (plan : Plan) (sends : OwnSends) (left some : ℕ) (old now new : Core) (from here next : Next)
-    → GoesAlong code plan sends left old from now here → is_still (shown code old from) ≡ false
-    → some ≡ left - (now.run.world.world.steps - old.run.world.world.steps) → HasGone code plan sends some now here new next
-    → HasGone code plan sends left old from new next
-gone_since code plan sends left some old now new from here next along goes e gone =
-    gone_far code plan sends left old now new from here next along goes (subst (λ n. HasGone code plan sends n now here new next) e gone)
+-- A move from where a run stands, with a step left, leads on and charges one step at most.
+pub once_gone : (code : CodeProgram) → MovesGoAlong code → MovesChargeOne code → (plan : Plan) (sends : OwnSends) (left : ℕ) (old new : Core)
+    (from next : Next) → RunsBy code plan sends old from → is_still (shown code old from) ≡ false → 1 ≤ left → MakesMove code old from new next
+    → HasGoneOnce code plan sends left old from new next
+once_gone code law one plan sends left old new from next runs goes some moved = (
+  law plan sends left old old new from from next (none_gone code plan sends left old from runs) goes goes (omega (arith, some)) moved,
+  one plan sends old new from next runs goes moved,
+)
 
 -- With so many steps left, a move of a body that runs leads on,
 pub body_gone : (code : CodeProgram) → MovesGoAlong code →
@@ -131,3 +133,11 @@ waits_goes code core at = by_pending core.waiting
     by_pending (pending.Performing receiver sel array site floor) = refl
     by_pending (pending.Evaluating block site floor first) = refl
     by_pending (pending.EvaluatingKept block site floor) = refl
+
+-- Where moves have led that charged no more than two of the steps that were left, so many but two are left.
+pub way_led : (code : CodeProgram) (plan : Plan) (sends : OwnSends) (left rest : ℕ) (old now new : Core) (from next : Next)
+    → rest ≤ left - (now.run.world.world.steps - old.run.world.world.steps) → old.run.world.world.steps ≤ now.run.world.world.steps
+    → ChargesAtMost 2 now new → HasGone code plan sends left old from new next → HasLed code plan sends left old from new (way_of next rest)
+way_led code plan sends left rest old now new from (On at) some on few gone = record { gone = gone; few = omega (arith, some, on, few) }
+way_led code plan sends left rest old now new from (Waits at) some on few gone = record { gone = gone; few = tt }
+way_led code plan sends left rest old now new from Ended some on few gone = record { gone = gone; few = tt }

@@ -3,6 +3,7 @@ pub mod Charged
 pub mod Turned
 pub mod Resent
 pub mod Along
+pub mod ChargedOnce
 pub mod Passed
 pub mod Untouched
 pub mod Rowed

@@ -1,5 +1,5 @@
 -- The method of the kernel whose frame is topmost.
-use Rattle.std.proofs.Common.{◌≡◌, ◌<◌, ℕ, List, [], ◌∷◌, length, refl, ap, subst, sym}
+use Rattle.std.proofs.Common.{◌≡◌, ◌<◌, ℕ, List, [], ◌∷◌, length, refl, ap, subst, sym, arith}
 use Rattle.ns_code.specs.declared.program.CodeProgram.{CodeProgram}
 use Rattle.ns_world.specs.declared.kernel_parts.KMethod.{KMethod}
 use Rattle.ns_world.specs.declared.value.Value.{Value}
@@ -13,13 +13,13 @@ use Rattle.ns_machine_plan.specs.declared.plan.Plan.{Plan}
 use Rattle.ns_machine_core.specs.declared.own.OwnSends.{OwnSends}
 use Rattle.ns_machine_core.specs.declared.state.Core.{Core}
 use Rattle.ns_machine_core.specs.declared.state.Next.{Next}
-use Rattle.ns_machine_core.specs.declared.state.Next.TheVariants.{Waits}
+use Rattle.ns_machine_core.specs.declared.state.Next.TheVariants.{On, Waits}
 use Rattle.ns_machine_core.specs.Ready.{MakesMove}
 use Rattle.ns_machine_returns.specs.Acting.{IsLooping, IsTopmost, awaiting}
 use Rattle.ns_machine_sends.specs.declared.sent.Sent.{Sent}
 use Rattle.ns_machine_sends.specs.Waiting.{BlockWaits, with_block}
-use Rattle.ns_machine_turns.specs.Looping.{BlockStands, LoopsBy, sent_by}
-use Rattle.ns_machine_turns.specs.Turning.{GoesAlong}
+use Rattle.ns_machine_turns.specs.Looping.{BlockStands, ComesToWait, LoopsBy, sent_by}
+use Rattle.ns_machine_turns.specs.Turning.{ChargesAtMost, GoesAlong, HasGone, MovesChargeOne, MovesGoAlong}
 
 -- It is the method of that frame,
 pub loops_by : (frames others : List Frame) (frame : LoopingFrame) (method : KMethod) → frames ≡ Looping frame ∷ others → frame.method ≡ method → LoopsBy method frames
@@ -82,3 +82,16 @@ pub block_stands : (code : CodeProgram) (plan : Plan) (sends : OwnSends) (left :
 block_stands code plan sends left old from core at looping block cell is along top place =
     let here = subst (λ (v : Value). GoesAlong code plan sends left old from (awaiting looping v core) (Waits at)) is along in
     record { grants = here.runs.can.grants; top = top; waits = record { is = refl; ready = here.runs.can.ready }; place = place }
+
+-- Where it has come to wait, and its block was evaluated, two moves have led on, and charge two steps at most.
+module _ (code : CodeProgram) (law : MovesGoAlong code) (one : MovesChargeOne code) (plan : Plan) (sends : OwnSends) (left : ℕ) (old mid new : Core)
+    (from at : Registers) (cell : ℕ) (next : Next) (waits : ComesToWait code plan sends left old from mid at cell)
+    (moved : MakesMove code (awaiting waits.looping (Ref cell) mid) (Waits at) new next) where
+  pub evaluated_gone : HasGone code plan sends left old (On from) new next
+  evaluated_gone = law plan sends left old (awaiting waits.looping (Ref cell) mid) new (On from) (Waits at) next waits.along refl refl waits.few moved
+
+  pub evaluated_few : ChargesAtMost 2 old new
+  evaluated_few =
+      let first = waits.one in
+      let second = one plan sends (awaiting waits.looping (Ref cell) mid) new (Waits at) next waits.along.runs refl moved in
+      omega (arith, first, second)

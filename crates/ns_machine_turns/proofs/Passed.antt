@@ -59,7 +59,7 @@ module _ (code : CodeProgram) (all : KnownPassing code) (plan : Plan) (sends : O
         (moves_on code all.known steps grants first (shown code now here) valid on (λ told. some) under))
 
   -- with the steps that were left
-  some_left : (steps : ℕ) (first : Core) (began : Next) → left ≡ steps_left steps (shown code first began) (shown code old from)
+  some_left : (steps : ℕ) (first : Core) (began : Next) → left ≤ steps_left steps (shown code first began) (shown code old from)
       → IsTurning code steps first began old from → 1 ≤ steps_left steps (shown code first began) (shown code now here)
   some_left steps first began e turning =
       let since = since_begun code steps first old began from goes turning.under in

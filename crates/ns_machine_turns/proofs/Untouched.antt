@@ -1,5 +1,5 @@
 -- A machine in which nothing has changed but the lookups that it keeps.
-use Rattle.std.proofs.Common.{◌≡◌, ℕ, ◌-◌, ◌<◌, List, Option, All, ap, sym, subst, arith, false}
+use Rattle.std.proofs.Common.{◌≡◌, ℕ, ◌-◌, ◌<◌, ◌≤◌, List, Option, All, ap, sym, subst, arith, false}
 use Rattle.ns_code.specs.declared.program.CodeProgram.{CodeProgram}
 use Rattle.ns_facets.specs.declared.row.Grants.{Grants}
 use Rattle.ns_moves.specs.Falling.{run_left}
@@ -115,8 +115,8 @@ untouched_falls code now new at less is falls = subst (λ (core : Core). less < 
 -- Moves that led on from such a machine, with the steps that were left for it, have led on from where others began.
 pub untouched_far : (code : CodeProgram) (plan : Plan) (sends : OwnSends) (left some : ℕ) (old now mid new : Core) (from : Next) (at : Registers) (next : Next)
     → GoesAlong code plan sends left old from now (On at) → is_still (shown code old from) ≡ false → OnlyLookupsChanged code now mid
-    → some ≡ left - (mid.run.world.world.steps - old.run.world.world.steps) → HasGone code plan sends some mid (On at) new next
+    → some ≤ left - (mid.run.world.world.steps - old.run.world.world.steps) → HasGone code plan sends some mid (On at) new next
     → HasGone code plan sends left old from new next
-untouched_far code plan sends left some old now mid new from at next along goes is e gone =
-    gone_far code plan sends left old mid new from (On at) next (untouched_along code plan sends left old from now mid at along is) goes
-    (subst (λ n. HasGone code plan sends n mid (On at) new next) e gone)
+untouched_far code plan sends left some old now mid new from at next along goes is few gone =
+    gone_far code plan sends left some old mid new from (On at) next few
+    (untouched_along code plan sends left old from now mid at along is) goes gone

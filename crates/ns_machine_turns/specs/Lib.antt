@@ -5,3 +5,4 @@ pub mod Resending
 pub mod Quickly
 pub mod Above
 pub mod Looping
+pub mod Ways

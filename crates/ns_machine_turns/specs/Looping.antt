@@ -17,7 +17,7 @@ use Rattle.ns_machine_sends.specs.declared.sent.Sent.{Sent}
 use Rattle.ns_machine_sends.specs.Waiting.{BlockWaits}
 use Rattle.ns_machine_turns.specs.declared.acting.Acted.{Acted}
 use Rattle.ns_machine_turns.specs.declared.acting.Acted.TheVariants.{Evaluates, Goes}
-use Rattle.ns_machine_turns.specs.Turning.{GoesAlong, HasGone}
+use Rattle.ns_machine_turns.specs.Turning.{ChargesAtMost, GoesAlong, HasGoneOnce}
 
 -- The topmost frame is one of that method of the kernel.
 abbrev pub LoopsBy : KMethod → List Frame → Type 0
@@ -42,11 +42,12 @@ pub record ComesToWait (code : CodeProgram) (plan : Plan) (sends : OwnSends) (le
   pub looping : LoopingFrame
   pub along : GoesAlong code plan sends left old (On from) (awaiting looping (Ref cell) new) (Waits at)
   pub few : new.run.world.world.steps - old.run.world.world.steps < left
+  pub one : ChargesAtMost 1 old new
   pub top : IsTopmost looping new.stack.frames.items
   pub place : looping.floor < length new.stack.values.items
 
--- It has come to that by its next action, or moves have led on.
+-- It has come to that by its next action, or moves have led on; and one step was charged at most.
 abbrev pub HasActed : CodeProgram → Plan → OwnSends → ℕ → Core → Registers → Core → Acted → Type 0
 HasActed code plan sends left old from new (Evaluates next top base cell) =
     ComesToWait code plan sends left old from new (record { next = next; top = top; base = base }) cell
-HasActed code plan sends left old from new (Goes next) = HasGone code plan sends left old (On from) new next
+HasActed code plan sends left old from new (Goes next) = HasGoneOnce code plan sends left old (On from) new next

@@ -1,5 +1,5 @@
 -- A turn of a machine that is under way.
-use Rattle.std.specs.Prelude.{◌≡◌, ◌⊎◌, ℕ, ◌-◌, ◌≤◌, ◌<◌, true, false}
+use Rattle.std.specs.Prelude.{◌≡◌, ◌⊎◌, ℕ, ◌+◌, ◌-◌, ◌≤◌, ◌<◌, true, false}
 use Rattle.ns_code.specs.declared.program.CodeProgram.{CodeProgram}
 use Rattle.ns_facets.specs.declared.row.Grants.{Grants}
 use Rattle.ns_moves.specs.State.{State, world_of}
@@ -47,11 +47,11 @@ pub record IsTurning (code : CodeProgram) (steps : ℕ) (first : Core) (from : N
   pub stays : KeepsRooms first now
   pub under : IsUnderWay code steps (shown code first from) (shown code now next)
 
--- Moves of the machine, if any, have led from one state to another: a turn that had come to the first with so many steps left
--- has come to the other, no step is taken back, and no more is left to be done.
+-- Moves of the machine, if any, have led from one state to another: a turn that had come to the first with so many steps left, or
+-- more, has come to the other, no step is taken back, and no more is left to be done.
 pub record GoesAlong (code : CodeProgram) (plan : Plan) (sends : OwnSends) (left : ℕ) (old : Core) (from : Next) (new : Core) (to : Next) : Type 0 where
   pub runs : RunsBy code plan sends new to
-  pub turning : (steps : ℕ) (first : Core) (began : Next) → left ≡ steps_left steps (shown code first began) (shown code old from)
+  pub turning : (steps : ℕ) (first : Core) (began : Next) → left ≤ steps_left steps (shown code first began) (shown code old from)
       → IsTurning code steps first began old from → IsTurning code steps first began new to
   pub onward : old.run.world.world.steps ≤ new.run.world.world.steps
   pub lower : run_left code (shown code new to) ≤ run_left code (shown code old from)
@@ -74,3 +74,23 @@ PassingGoesAlong code =
     (plan : Plan) (sends : OwnSends) (left : ℕ) (old now new : Core) (from here next : Next)
     → GoesAlong code plan sends left old from now here → is_still (shown code old from) ≡ false → is_still (shown code now here) ≡ false
     → now.run.world.world.steps - old.run.world.world.steps < left → MovesTwice code now here new next → HasGone code plan sends left old from new next
+
+-- No more than so many steps were charged.
+abbrev pub ChargesAtMost : ℕ → Core → Core → Type 0
+ChargesAtMost count old new = new.run.world.world.steps ≤ old.run.world.world.steps + count
+
+-- No move charges more than one,
+abbrev pub MovesChargeOne : CodeProgram → Type 0
+MovesChargeOne code =
+    (plan : Plan) (sends : OwnSends) (old new : Core) (from next : Next) → RunsBy code plan sends old from → is_still (shown code old from) ≡ false
+    → MakesMove code old from new next → ChargesAtMost 1 old new
+
+-- nor do two that are made as one.
+abbrev pub PassingChargesOne : CodeProgram → Type 0
+PassingChargesOne code =
+    (plan : Plan) (sends : OwnSends) (old new : Core) (from next : Next) → RunsBy code plan sends old from → is_still (shown code old from) ≡ false
+    → MovesTwice code old from new next → ChargesAtMost 1 old new
+
+-- Moves have led from one state to another, and one step was charged at most.
+abbrev pub HasGoneOnce : CodeProgram → Plan → OwnSends → ℕ → Core → Next → Core → Next → Type 0
+HasGoneOnce code plan sends left old from new next = HasGone code plan sends left old from new next × ChargesAtMost 1 old new

@@ -3,14 +3,15 @@
 ghost use Rattle.std.specs.Prelude.{◌≡◌, ◌∷◌, ◌≤◌};
 ghost use Rattle.ns_machine_frames.specs.declared.frame.Frame.TheVariants.{Looping};
 ghost use Rattle.ns_machine_frames.specs.Standing.{below};
+ghost use Rattle.ns_world.specs.declared.kernel_parts.KMethod.TheVariants.{ToDo};
 ghost use Rattle.ns_world.specs.declared.value.Value.TheVariants.{Ref};
 ghost use Rattle.ns_machine_core.specs.declared.state.Next.TheVariants.{On, Waits};
 ghost use Rattle.ns_machine_core.specs.Ready.{MakesMove};
 ghost use Rattle.ns_machine_returns.specs.Acting.{IsLooping, IsTopmost, awaiting};
 ghost use Rattle.ns_machine_turns.specs.Looping.{BlockStands, HasActed, LoopsBy};
-ghost use Rattle.ns_machine_turns.specs.Turning.{RunsBy, HasGone};
+ghost use Rattle.ns_machine_turns.specs.Turning.{ChargesAtMost, HasGone, RunsBy};
 
-use crate::laws::moves_go_along;
+use crate::laws::{moves_charge_one, moves_go_along};
 use ns_code::program::CodeProgram;
 use ns_machine_core::own::OwnSends;
 use ns_machine_core::state::{Core, Next};
@@ -57,11 +58,65 @@ pub fn act_along(
     requires runs { RunsBy code.now plan.now own core.old (On (record { next = next; top = top; base = base })) }
     requires loops { IsLooping core.old.stack.frames.items }
     requires some { 1 ≤ left }
-    ensures { HasGone code.now plan.now own left core.old (On (record { next = next; top = top; base = base })) core.new result }
+    ensures gone { HasGone code.now plan.now own left core.old (On (record { next = next; top = top; base = base })) core.new result }
+    ensures few { ChargesAtMost 2 core.old core.new }
 {
     moves_go_along();
+    moves_charge_one();
     let here = Registers { next, top, base };
     match act(plan, code, core, here, left, own) {
+        Acted::Evaluates {
+            next,
+            top,
+            base,
+            cell,
+        } => evaluate(code, core, Registers { next, top, base }, cell),
+        Acted::Goes(to) => to,
+    }
+}
+
+/// The same, where it is united with what calls it for `to:do:`, which has more turns than any other.
+#[inline(always)]
+#[tactic(auto, using(crate::proofs::Looped::loops_by))]
+pub fn act_here(
+    plan: &Plan,
+    code: &CodeProgram,
+    core: &mut Core,
+    at: Registers,
+    left: u64,
+    own: OwnSends,
+) -> Next
+    requires runs { RunsBy code.now plan.now own core.old (On at) }
+    requires loops { IsLooping core.old.stack.frames.items }
+    requires some { 1 ≤ left }
+    ensures gone { HasGone code.now plan.now own left core.old (On at) core.new result }
+    ensures few { ChargesAtMost 2 core.old core.new }
+{
+    match looping(&core.stack).method {
+        KMethod::ToDo => turn_to_do(plan, code, core, at, left, own),
+        _ => act_along(plan, code, core, at.next, at.top, at.base, left, own),
+    }
+}
+
+/// Does the next action of `to:do:`.
+#[inline(always)]
+fn turn_to_do(
+    plan: &Plan,
+    code: &CodeProgram,
+    core: &mut Core,
+    at: Registers,
+    left: u64,
+    own: OwnSends,
+) -> Next
+    requires runs { RunsBy code.now plan.now own core.old (On at) }
+    requires loops { LoopsBy ToDo core.old.stack.frames.items }
+    requires some { 1 ≤ left }
+    ensures gone { HasGone code.now plan.now own left core.old (On at) core.new result }
+    ensures few { ChargesAtMost 2 core.old core.new }
+{
+    moves_go_along();
+    moves_charge_one();
+    match act_as(plan, code, core, at, left, own, KMethod::ToDo) {
         Acted::Evaluates {
             next,
             top,
@@ -124,9 +179,9 @@ fn act_as(
     ensures { HasActed code.now plan.now own left core.old at core.new result }
 {
     moves_go_along();
+    moves_charge_one();
     topmost_methods_can_act();
     let _plan = plan;
-    let begun = core.run.world.counters().steps;
     let frame = looping_by(&core.stack, method);
     match ask(code, core, at, frame) {
         Waited::Evaluates {
@@ -137,7 +192,7 @@ fn act_as(
             let above = prepare(code, core, at, frame, block, argument, state);
             match block {
                 Value::Ref(cell) => {
-                    if left <= core.run.world.counters().steps - begun {
+                    if left < 2 {
                         return Acted::Goes(let_wait(
                             core,
                             above.next,

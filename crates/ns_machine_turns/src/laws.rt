@@ -1,7 +1,7 @@
 //! Laws of turns. Each function does nothing but name the laws that it rests on, and its contract is the law.
 
 ghost use Rattle.ns_code.specs.declared.program.CodeProgram.{CodeProgram};
-ghost use Rattle.ns_machine_turns.specs.Turning.{MovesGoAlong, PassingGoesAlong};
+ghost use Rattle.ns_machine_turns.specs.Turning.{MovesChargeOne, MovesGoAlong, PassingChargesOne, PassingGoesAlong};
 
 use ns_machine_core::laws::{
     moves_keep_machines_ready, passing_keeps_machines_ready, turns_go_by_moves,
@@ -32,4 +32,13 @@ pub fn passing_goes_along()
     passing_keeps_machines_ready();
     moves_go_onward();
     moves_lower();
+}
+
+/// A move charges one step at most, and so do two that are made as one.
+pub fn moves_charge_one()
+    ensures moves { (code : CodeProgram) → MovesChargeOne code }
+    ensures passing { (code : CodeProgram) → PassingChargesOne code }
+{
+    moves_charge_as_told();
+    moves_keep_valid();
 }

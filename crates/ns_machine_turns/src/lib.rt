@@ -14,3 +14,4 @@ pub mod quickly;
 pub mod resending;
 pub mod stepping;
 pub mod turning;
+mod way;

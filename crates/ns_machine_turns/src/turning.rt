@@ -11,14 +11,18 @@ ghost use Rattle.ns_machine_core.specs.Ready.{MachineIsReady, MakesMove};
 ghost use Rattle.ns_machine_core.specs.Standing.{KeepsRooms};
 ghost use Rattle.ns_machine_core.specs.Straight.{TopRunsBody};
 ghost use Rattle.ns_machine_core.specs.declared.state.Next.TheVariants as next;
-ghost use Rattle.ns_machine_turns.specs.Turning.{RunsBy, HasGone};
+ghost use Rattle.ns_machine_turns.specs.Turning.{ChargesAtMost, HasGone, RunsBy};
+ghost use Rattle.ns_machine_turns.specs.declared.way.Way.TheVariants as way;
+ghost use Rattle.ns_machine_turns.specs.Ways as spec;
+ghost use Rattle.ns_machine_turns.specs.Ways.{HasLed};
 
-use crate::acting::act_along;
+use crate::acting::{act_along, act_here};
 use crate::blockwise::move_on;
 use crate::charging::charges;
-use crate::laws::{moves_go_along, passing_goes_along};
+use crate::laws::{moves_charge_one, moves_go_along, passing_goes_along};
 use crate::moving::{step, take_up, take_up_soon};
 use crate::quickly::go_quickly;
+use crate::way::Way;
 use ns_code::program::CodeProgram;
 use ns_machine_core::laws::{moves_keep_machines_ready, turns_go_by_moves};
 use ns_machine_core::led::Led;
@@ -103,7 +107,7 @@ fn go_along(
 
 /// Moves with so many steps left, for as long as the topmost frame goes on: straight on in a body, as far as that goes, and one move
 /// more; or the next action of a method of the kernel. The registers stay in local variables: no other way on is carried from one
-/// frame to the next.
+/// frame to the next. So do the steps left, off which each takes the most that it can have charged: fewer may be told than there are.
 #[inline(always)]
 fn run_along(
     plan: &Plan,
@@ -118,7 +122,6 @@ fn run_along(
     ensures { HasGone code.now plan.now own left core.old (next.On at) core.new result }
 {
     moves_go_along();
-    let begun = core.run.world.counters().steps;
     let mut here = at;
     let mut rest = left;
     'along: loop {
@@ -132,24 +135,22 @@ fn run_along(
                 rest,
                 own,
             ) {
-                Next::On(to) => {
-                    rest = steps_left(core, begun, left);
-                    if rest == 0 {
+                Way::On { to, sure } => {
+                    if sure == 0 {
                         return Next::On(to);
                     }
+                    rest = sure;
                     here = to;
                 }
-                Next::Waits(to) => return Next::Waits(to),
-                Next::Ended => return Next::Ended,
+                Way::Waits(to) => return Next::Waits(to),
+                Way::Ended => return Next::Ended,
             },
-            Frame::Looping(_) => match act_along(
-                plan, code, core, here.next, here.top, here.base, rest, own,
-            ) {
+            Frame::Looping(_) => match act_here(plan, code, core, here, rest, own) {
                 Next::On(to) => {
-                    rest = steps_left(core, begun, left);
-                    if rest == 0 {
+                    if rest <= 2 {
                         return Next::On(to);
                     }
+                    rest -= 2;
                     here = to;
                 }
                 Next::Waits(to) => return Next::Waits(to),
@@ -157,15 +158,6 @@ fn run_along(
             },
         }
     }
-}
-
-/// How many of so many steps are left, since the world had counted that number of them.
-#[inline(always)]
-fn steps_left(core: &Core, begun: u64, left: u64) -> u64
-    requires { begun ≤ core.now.run.world.world.steps }
-    ensures { result ≡ left - (core.now.run.world.world.steps - begun) }
-{
-    left.saturating_sub(core.run.world.counters().steps - begun)
 }
 
 /// Goes straight on in the body that runs in the topmost frame, and makes one move more, by the quick way where that does it.
@@ -180,14 +172,15 @@ fn go_straight(
     body: u32,
     left: u64,
     own: OwnSends,
-) -> Next
+) -> Way
     requires runs { RunsBy code.now plan.now own core.old (next.On at) }
     requires body { TopRunsBody body core.old.stack.frames.items }
     requires some { 1 ≤ left }
-    ensures { HasGone code.now plan.now own left core.old (next.On at) core.new result }
+    ensures { HasLed code.now plan.now own left core.old (next.On at) core.new result }
 {
     moves_go_along();
     passing_goes_along();
+    moves_charge_one();
     running_bodies_have_steps();
     let steps = plan.steps_of(code, body);
     let top = OnTop {
@@ -206,18 +199,27 @@ fn go_straight(
             Led::Charged(to) => {
                 rest -= 1;
                 if rest == 0 {
-                    return Next::On(to);
+                    return Way::On { to, sure: 0 };
                 }
                 here = to;
             }
-            Led::On(to) => return Next::On(to),
-            Led::Answered(to) => return Next::On(to),
+            Led::On(to) => return way_on(to, rest),
+            Led::Answered(to) => return way_on(to, rest),
             Led::Nowhere => {
                 let before = step_back(behind);
-                return as_value(go_apart(plan, code, core, before, rest, own));
+                return way_of(go_apart(plan, code, core, before, rest, own), rest);
             }
         }
     }
+}
+
+/// On, behind what may have charged one of so many steps.
+#[inline(always)]
+fn way_on(to: Registers, rest: u64) -> Way
+    requires { 1 ≤ rest }
+    ensures { result ≡ way.On to (rest - 1) }
+{
+    Way::On { to, sure: rest - 1 }
 }
 
 /// The registers before a step, from those behind it.
@@ -245,7 +247,8 @@ fn go_apart(
 ) -> Next
     requires runs { RunsBy code.now plan.now own core.old (next.On at) }
     requires some { 1 ≤ left }
-    ensures { HasGone code.now plan.now own left core.old (next.On at) core.new result }
+    ensures gone { HasGone code.now plan.now own left core.old (next.On at) core.new result }
+    ensures few { ChargesAtMost 2 core.old core.new }
 {
     moves_go_along();
     match *core.stack.topmost() {
@@ -267,12 +270,13 @@ fn run_apart(
     requires runs { RunsBy code.now plan.now own core.old (next.On at) }
     requires running { IsRunning core.old.stack.frames.items }
     requires some { 1 ≤ left }
-    ensures { HasGone code.now plan.now own left core.old (next.On at) core.new result }
+    ensures gone { HasGone code.now plan.now own left core.old (next.On at) core.new result }
+    ensures few { ChargesAtMost 2 core.old core.new }
 {
     moves_go_along();
-    let begun = core.run.world.counters().steps;
+    moves_charge_one();
     let moved = move_on(plan, code, core, at, own);
-    if left <= core.run.world.counters().steps - begun {
+    if left < 2 {
         return moved;
     }
     match moved {
@@ -281,15 +285,19 @@ fn run_apart(
     }
 }
 
-/// The same, read once from where a call has written it, so that no other way on goes through memory.
+/// Where that led, behind what may have charged two of so many steps. It is read once from where a call has written it, so that no other
+/// way on goes through memory.
 #[inline(always)]
-fn as_value(next: Next) -> Next
-    ensures { result ≡ next }
+fn way_of(next: Next, rest: u64) -> Way
+    ensures { result ≡ spec.way_of next rest }
 {
     match next {
-        Next::On(at) => Next::On(at),
-        Next::Waits(at) => Next::Waits(at),
-        Next::Ended => Next::Ended,
+        Next::On(to) => Way::On {
+            to,
+            sure: rest.saturating_sub(2),
+        },
+        Next::Waits(to) => Way::Waits(to),
+        Next::Ended => Way::Ended,
     }
 }
 

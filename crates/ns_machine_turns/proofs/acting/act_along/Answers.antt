@@ -1,10 +1,9 @@
-use Rattle.std.proofs.Common.{refl}
+use Rattle.std.proofs.Common.{refl, arith}
 use Rattle.ns_world.specs.declared.value.Value.TheVariants.{Ref}
 use Rattle.ns_machine_frames.specs.declared.registers.Registers.{Registers}
-use Rattle.ns_machine_core.specs.declared.state.Next.TheVariants.{On, Waits}
-use Rattle.ns_machine_returns.specs.Acting.{awaiting}
+use Rattle.ns_machine_core.specs.declared.state.Next.TheVariants.{On}
 use Rattle.ns_machine_turns.specs.Looping.{BlockStands}
-use Rattle.ns_machine_turns.proofs.Looped.{block_stands}
+use Rattle.ns_machine_turns.proofs.Looped.{block_stands, evaluated_few, evaluated_gone}
 use Rattle.ns_machine_turns.proofs.acting.act_along.Goals as goal
 
 pub evaluate-requires : goal.evaluate-requires
@@ -17,13 +16,27 @@ evaluate-requires c =
           c.in-Evaluates.cell refl waits.along waits.top waits.place,
     )
 
-pub returns-in-Evaluates : goal.returns-in-Evaluates
-returns-in-Evaluates c =
+pub returns-in-Evaluates-clause-gone : goal.returns-in-Evaluates-clause-gone
+returns-in-Evaluates-clause-gone c =
     let here : Registers = record { next = c.args.next; top = c.args.top; base = c.args.base } in
     let at : Registers = record { next = c.in-Evaluates.next; top = c.in-Evaluates.top; base = c.in-Evaluates.base } in
     let waits = c.in-Evaluates.ensures in
     let stands : BlockStands c.args.code.now c.act.new.core at waits.looping c.in-Evaluates.cell =
     block_stands c.args.code.now c.args.plan.now c.args.own c.args.left c.args.core.now (On here) c.act.new.core at waits.looping (Ref c.in-Evaluates.cell)
     c.in-Evaluates.cell refl waits.along waits.top waits.place in
-    c.moves_go_along.ensures c.args.code.now c.args.plan.now c.args.own c.args.left c.args.core.now (awaiting waits.looping (Ref c.in-Evaluates.cell) c.act.new.core)
-    c.evaluate.new.core (On here) (Waits at) c.evaluate.result waits.along refl refl waits.few (c.evaluate.ensures waits.looping stands)
+    evaluated_gone c.args.code.now (c.moves_go_along.ensures c.args.code.now) (c.moves_charge_one.ensures.moves c.args.code.now) c.args.plan.now c.args.own
+    c.args.left c.args.core.now c.act.new.core c.evaluate.new.core here at c.in-Evaluates.cell c.evaluate.result waits (c.evaluate.ensures waits.looping stands)
+
+pub returns-in-Evaluates-clause-few : goal.returns-in-Evaluates-clause-few
+returns-in-Evaluates-clause-few c =
+    let here : Registers = record { next = c.args.next; top = c.args.top; base = c.args.base } in
+    let at : Registers = record { next = c.in-Evaluates.next; top = c.in-Evaluates.top; base = c.in-Evaluates.base } in
+    let waits = c.in-Evaluates.ensures in
+    let stands : BlockStands c.args.code.now c.act.new.core at waits.looping c.in-Evaluates.cell =
+    block_stands c.args.code.now c.args.plan.now c.args.own c.args.left c.args.core.now (On here) c.act.new.core at waits.looping (Ref c.in-Evaluates.cell)
+    c.in-Evaluates.cell refl waits.along waits.top waits.place in
+    evaluated_few c.args.code.now (c.moves_go_along.ensures c.args.code.now) (c.moves_charge_one.ensures.moves c.args.code.now) c.args.plan.now c.args.own
+    c.args.left c.args.core.now c.act.new.core c.evaluate.new.core here at c.in-Evaluates.cell c.evaluate.result waits (c.evaluate.ensures waits.looping stands)
+
+pub returns-in-Goes-clause-few : goal.returns-in-Goes-clause-few
+returns-in-Goes-clause-few c = let one = c.in-Goes.ensures.1 in omega (arith, one)

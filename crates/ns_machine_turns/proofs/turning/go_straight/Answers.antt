@@ -1,9 +1,10 @@
 use Rattle.std.proofs.Common.{◌-◌, ◌<◌, ◌∙◌, refl, arith, sym, subst}
 use Rattle.ns_machine_frames.specs.declared.registers.Registers.{Registers}
-use Rattle.ns_machine_core.specs.declared.state.Next.{Next}
 use Rattle.ns_machine_core.specs.declared.state.Next.TheVariants.{On}
 use Rattle.ns_machine_turns.specs.Turning.{HasGone, RunsBy}
-use Rattle.ns_machine_turns.proofs.Along.{none_gone, body_gone, body_falls}
+use Rattle.ns_machine_turns.specs.Ways.{HasLed}
+use Rattle.ns_machine_turns.specs.declared.way.Way.{Way}
+use Rattle.ns_machine_turns.proofs.Along.{none_gone, body_gone, body_falls, way_led}
 use Rattle.ns_machine_turns.proofs.Untouched.{untouched_along, untouched_far, untouched_steps}
 use Rattle.ns_machine_turns.proofs.Fetched.{body_has_step, few_steps, stepped_back}
 use Rattle.ns_machine_turns.proofs.turning.go_straight.Goals as goal
@@ -53,15 +54,23 @@ straight-preserved-in-Straight c =
     let stays = c.in-Straight.ensures.stays c.args.body c.straight.invariant.runs in
     let rest = c.straight.invariant.rest in
     let same = stays.steps in
-    record { along = gone.along; rest = omega (arith, rest, same); some = c.straight.invariant.some; runs = stays.runs }
+    record {
+      along = gone.along;
+      rest = omega (arith, rest, same);
+      some = c.straight.invariant.some;
+      runs = stays.runs;
+    }
 
 -- ---- straight on, with one charged
 
 pub returns-then-rest-eq0 : goal.returns-then-rest-eq0
 returns-then-rest-eq0 c =
-    body_gone c.args.code.now (c.moves_go_along.ensures c.args.code.now) c.args.plan.now c.args.own c.args.left c.straight.rest c.args.core.now
-    c.straight.core c.go_quickly.new.core c.args.at c.straight.here (On c.in-Charged.to) c.straight.invariant.some c.straight.invariant.rest
-    c.straight.invariant.along c.in-Charged.ensures.moves
+    record {
+      gone = body_gone c.args.code.now (c.moves_go_along.ensures c.args.code.now) c.args.plan.now c.args.own c.args.left c.straight.rest c.args.core.now
+          c.straight.core c.go_quickly.new.core c.args.at c.straight.here (On c.in-Charged.to) c.straight.invariant.some c.straight.invariant.rest
+          c.straight.invariant.along c.in-Charged.ensures.moves;
+      few = omega arith;
+    }
 
 pub straight-smaller : goal.straight-smaller
 straight-smaller c =
@@ -78,23 +87,47 @@ straight-preserved c =
     let some = c.straight.invariant.some in
     let more = stays.steps in
     let onward = c.straight.invariant.along.onward in
-    record { along = gone.along; rest = omega (arith, rest, more, onward); some = omega (arith, some, c.if-rest-eq0.false); runs = stays.runs }
+    record {
+      along = gone.along;
+      rest = omega (arith, rest, more, onward);
+      some = omega (arith, some, c.if-rest-eq0.false);
+      runs = stays.runs;
+    }
 
 -- ---- one move more
 
 pub returns-in-On : goal.returns-in-On
 returns-in-On c =
-    body_gone c.args.code.now (c.moves_go_along.ensures c.args.code.now) c.args.plan.now c.args.own c.args.left c.straight.rest c.args.core.now
-    c.straight.core c.go_quickly.new.core c.args.at c.straight.here (On c.in-On.to) c.straight.invariant.some c.straight.invariant.rest
-    c.straight.invariant.along c.in-On.ensures
+    let along = c.straight.invariant.along in
+    let rest = c.straight.invariant.rest in
+    let some = c.straight.invariant.some in
+    let onward = along.onward in
+    let one = c.moves_charge_one.ensures.moves c.args.code.now c.args.plan.now c.args.own c.straight.core c.go_quickly.new.core (On c.straight.here)
+    (On c.in-On.to) along.runs refl c.in-On.ensures in
+    subst (λ (way : Way). HasLed c.args.code.now c.args.plan.now c.args.own c.args.left c.args.core.now (On c.args.at) c.go_quickly.new.core way)
+    (sym c.way_on.ensures)
+    (record {
+      gone = body_gone c.args.code.now (c.moves_go_along.ensures c.args.code.now) c.args.plan.now c.args.own c.args.left c.straight.rest c.args.core.now
+          c.straight.core c.go_quickly.new.core c.args.at c.straight.here (On c.in-On.to) some rest along c.in-On.ensures;
+      few = omega (arith, rest, some, onward, one);
+    })
 
 pub returns-in-Answered : goal.returns-in-Answered
 returns-in-Answered c =
+    let along = c.straight.invariant.along in
     let some = c.straight.invariant.some in
     let rest = c.straight.invariant.rest in
+    let onward = along.onward in
+    let one = c.moves_charge_one.ensures.passing c.args.code.now c.args.plan.now c.args.own c.straight.core c.go_quickly.new.core (On c.straight.here)
+    (On c.in-Answered.to) along.runs refl c.in-Answered.ensures in
     let few : c.straight.core.run.world.world.steps - c.args.core.now.run.world.world.steps < c.args.left = omega (arith, some, rest) in
-    c.passing_goes_along.ensures c.args.code.now c.args.plan.now c.args.own c.args.left c.args.core.now c.straight.core c.go_quickly.new.core
-    (On c.args.at) (On c.straight.here) (On c.in-Answered.to) c.straight.invariant.along refl refl few c.in-Answered.ensures
+    subst (λ (way : Way). HasLed c.args.code.now c.args.plan.now c.args.own c.args.left c.args.core.now (On c.args.at) c.go_quickly.new.core way)
+    (sym c.way_on-in-Answered.ensures)
+    (record {
+      gone = c.passing_goes_along.ensures c.args.code.now c.args.plan.now c.args.own c.args.left c.args.core.now c.straight.core c.go_quickly.new.core
+          (On c.args.at) (On c.straight.here) (On c.in-Answered.to) along refl refl few c.in-Answered.ensures;
+      few = omega (arith, rest, some, onward, one);
+    })
 
 pub go_apart-requires-clause-runs : goal.go_apart-requires-clause-runs
 go_apart-requires-clause-runs c =
@@ -106,14 +139,17 @@ go_apart-requires-clause-runs c =
 pub returns-in-Nowhere : goal.returns-in-Nowhere
 returns-in-Nowhere c =
     let rest = c.straight.invariant.rest in
+    let onward = c.straight.invariant.along.onward in
     let untouched = untouched_steps c.args.code.now c.straight.core c.go_quickly.new.core c.in-Nowhere.ensures in
     let here = c.step_back-before.ensures ∙ stepped_back c.straight.here in
     let gone =
     subst (λ (at : Registers). HasGone c.args.code.now c.args.plan.now c.args.own c.straight.rest c.go_quickly.new.core (On at) c.go_apart.new.core
     c.go_apart.result)
-    here c.go_apart.ensures in
-    subst (λ (next : Next). HasGone c.args.code.now c.args.plan.now c.args.own c.args.left c.args.core.now (On c.args.at) c.go_apart.new.core next)
-    (sym c.as_value.ensures)
+    here c.go_apart.ensures.gone in
+    subst (λ (way : Way). HasLed c.args.code.now c.args.plan.now c.args.own c.args.left c.args.core.now (On c.args.at) c.go_apart.new.core way)
+    (sym c.way_of.ensures)
+    (way_led c.args.code.now c.args.plan.now c.args.own c.args.left c.straight.rest c.args.core.now c.go_quickly.new.core c.go_apart.new.core (On c.args.at)
+    c.go_apart.result (omega (arith, rest, untouched)) (omega (arith, onward, untouched)) c.go_apart.ensures.few
     (untouched_far c.args.code.now c.args.plan.now c.args.own c.args.left c.straight.rest c.args.core.now c.straight.core c.go_quickly.new.core
     c.go_apart.new.core (On c.args.at) c.straight.here c.go_apart.result c.straight.invariant.along refl c.in-Nowhere.ensures
-    (omega (arith, rest, untouched)) gone)
+    (omega (arith, rest, untouched)) gone))

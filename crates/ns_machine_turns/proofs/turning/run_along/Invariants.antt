@@ -1,4 +1,4 @@
-use Rattle.std.proofs.Common.{◌≡◌, ◌-◌, ◌≤◌}
+use Rattle.std.proofs.Common.{◌-◌, ◌≤◌}
 use Rattle.ns_machine_core.specs.declared.state.Next.TheVariants.{On}
 use Rattle.ns_machine_core.specs.Shown.{shown}
 use Rattle.ns_moves.specs.Falling.{run_left}
@@ -8,8 +8,7 @@ use Rattle.ns_machine_turns.proofs.turning.run_along.Given as goal
 abbrev pub invariant-along : goal.invariant-along
 invariant-along l = record {
   along : GoesAlong l.code l.plan l.own l.left l.fn.core (On l.fn.at) l.core (On l.here);
-  begun : l.begun ≡ l.fn.core.run.world.world.steps;
-  rest : l.rest ≡ l.left - (l.core.run.world.world.steps - l.fn.core.run.world.world.steps);
+  rest : l.rest ≤ l.left - (l.core.run.world.world.steps - l.fn.core.run.world.world.steps);
   some : 1 ≤ l.rest;
 }
 
