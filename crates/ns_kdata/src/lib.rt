@@ -1,6 +1,6 @@
 //! The kernel's rows of values, booleans, texts, symbols, arrays and messages.
 //! `specs/Datum.antt` says what each row comes to: its answer and its one change of the world, or its first fault.
-//! Stands between world and actions.
+//! Stands between world and moves.
 #![tactic(auto)]
 
 pub mod arguments;

@@ -1,6 +1,6 @@
 //! What a run tells of itself: the text of a value, and the line that reports how it ended.
 //! `crates/ns_moves/specs/Report.antt` says both.
-//! Stands between actions and ns_machine.
+//! Stands between moves and ns_machine.
 #![tactic(auto)]
 
 pub mod line;

@@ -1,6 +1,6 @@
 //! The kernel's rows of Mirrors and Mirror.
 //! `specs/Mirror.antt` says what each row comes to.
-//! Stands between classes, ns_kdata and actions.
+//! Stands between classes, ns_kdata and moves.
 #![tactic(auto)]
 
 mod arrays;
