@@ -17,6 +17,7 @@ use Rattle.ns_machine_core.specs.declared.state.Next.TheVariants.{On, Waits, End
 use Rattle.ns_machine_core.specs.Shown.{phase_shown, progress_in, shown}
 use Rattle.ns_machine_core.specs.Ready.{MakesMove, MovesKeepReady}
 use Rattle.ns_machine_turns.specs.Turning.{steps_left, ChargesAtMost, RunsBy, IsTurning, GoesAlong, HasGone, HasGoneOnce, MovesGoAlong, MovesChargeOne}
+use Rattle.ns_machine_turns.specs.declared.way.Way.TheVariants as way
 use Rattle.ns_machine_turns.specs.Ways.{HasLed, way_of}
 use Rattle.ns_machine_turns.proofs.Turned.{Known, runs_on, turning_on, counted, left_is, since_begun}
 
@@ -111,7 +112,7 @@ once_gone code law one plan sends left old new from next runs goes some moved = 
 -- With so many steps left, a move of a body that runs leads on,
 pub body_gone : (code : CodeProgram) → MovesGoAlong code →
     (plan : Plan) (sends : OwnSends) (left some : ℕ) (old now new : Core) (at here : Registers) (next : Next)
-    → 1 ≤ some → some ≡ left - (now.run.world.world.steps - old.run.world.world.steps) → GoesAlong code plan sends left old (On at) now (On here)
+    → 1 ≤ some → some ≤ left - (now.run.world.world.steps - old.run.world.world.steps) → GoesAlong code plan sends left old (On at) now (On here)
     → MakesMove code now (On here) new next → HasGone code plan sends left old (On at) new next
 body_gone code law plan sends left some old now new at here next one e along moved =
     law plan sends left old now new (On at) (On here) next along refl refl (omega (arith, one, e)) moved
@@ -141,3 +142,25 @@ pub way_led : (code : CodeProgram) (plan : Plan) (sends : OwnSends) (left rest :
 way_led code plan sends left rest old now new from (On at) some on few gone = record { gone = gone; few = omega (arith, some, on, few) }
 way_led code plan sends left rest old now new from (Waits at) some on few gone = record { gone = gone; few = tt }
 way_led code plan sends left rest old now new from Ended some on few gone = record { gone = gone; few = tt }
+
+-- So many are left where moves have led that charged no more than two, from a machine where others had led.
+pub turned_led : (code : CodeProgram) (plan : Plan) (sends : OwnSends) (left rest : ℕ) (old now mid new : Core) (from here next : Next)
+    → GoesAlong code plan sends left old from now here → is_still (shown code old from) ≡ false → mid ≡ now
+    → rest ≤ left - (now.run.world.world.steps - old.run.world.world.steps) → ChargesAtMost 2 mid new → HasGone code plan sends rest mid here new next
+    → HasLed code plan sends left old from new (way_of next rest)
+turned_led code plan sends left rest old now mid new from here next along goes same some few gone =
+    way_led code plan sends left rest old now new from next some along.onward (subst (λ (core : Core). ChargesAtMost 2 core new) same few)
+    (gone_far code plan sends left rest old now new from here next some along goes
+    (subst (λ (core : Core). HasGone code plan sends rest core here new next) same gone))
+
+-- Where they have led on, less is left to be done.
+pub turned_falls : (code : CodeProgram) (now mid new : Core) (here next : Next) (rest sure : ℕ) (to : Registers) → mid ≡ now → way_of next rest ≡ way.On to sure
+    → run_left code (shown code new next) < run_left code (shown code mid here) → run_left code (shown code new (On to)) < run_left code (shown code now here)
+turned_falls code now mid new here next rest sure to same is falls =
+    subst (λ (n : Next). run_left code (shown code new n) < run_left code (shown code now here)) (on next is)
+    (subst (λ (core : Core). run_left code (shown code new next) < run_left code (shown code core here)) same falls)
+  where
+    on : (n : Next) → way_of n rest ≡ way.On to sure → n ≡ On to
+    on (On at) e = let one : at ≡ to = cc in ap On one
+    on (Waits at) e = absurd (cc)
+    on Ended e = absurd (cc)

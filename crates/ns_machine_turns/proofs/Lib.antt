@@ -8,3 +8,4 @@ pub mod Passed
 pub mod Untouched
 pub mod Rowed
 pub mod Looped
+pub mod Repeated

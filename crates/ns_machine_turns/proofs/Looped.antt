@@ -1,6 +1,7 @@
 -- The method of the kernel whose frame is topmost.
-use Rattle.std.proofs.Common.{◌≡◌, ◌<◌, ℕ, List, [], ◌∷◌, length, refl, ap, subst, sym, arith}
+use Rattle.std.proofs.Common.{◌≡◌, ◌<◌, ◌≤◌, ℕ, List, [], ◌∷◌, length, refl, ap, subst, sym, ◌∙◌, arith}
 use Rattle.ns_code.specs.declared.program.CodeProgram.{CodeProgram}
+use Rattle.ns_facets.specs.declared.row.Grants.{Grants}
 use Rattle.ns_world.specs.declared.kernel_parts.KMethod.{KMethod}
 use Rattle.ns_world.specs.declared.value.Value.{Value}
 use Rattle.ns_world.specs.declared.value.Value.TheVariants.{Ref}
@@ -9,17 +10,20 @@ use Rattle.ns_machine_frames.specs.declared.frame.Frame.TheVariants.{Running, Lo
 use Rattle.ns_machine_frames.specs.declared.frame.LoopingFrame.{LoopingFrame}
 use Rattle.ns_machine_frames.specs.declared.frame.Pending.TheVariants.{Evaluating}
 use Rattle.ns_machine_frames.specs.declared.registers.Registers.{Registers}
+use Rattle.ns_machine_frames.specs.Standing.{below}
 use Rattle.ns_machine_plan.specs.declared.plan.Plan.{Plan}
 use Rattle.ns_machine_core.specs.declared.own.OwnSends.{OwnSends}
 use Rattle.ns_machine_core.specs.declared.state.Core.{Core}
 use Rattle.ns_machine_core.specs.declared.state.Next.{Next}
 use Rattle.ns_machine_core.specs.declared.state.Next.TheVariants.{On, Waits}
-use Rattle.ns_machine_core.specs.Ready.{MakesMove}
-use Rattle.ns_machine_returns.specs.Acting.{IsLooping, IsTopmost, awaiting}
+use Rattle.ns_machine_core.specs.Ready.{MachineIsReady, MakesMove}
+use Rattle.ns_machine_returns.specs.Acting.{CanAct, IsLooping, IsTopmost, ReadyCanAct, awaiting}
 use Rattle.ns_machine_sends.specs.declared.sent.Sent.{Sent}
 use Rattle.ns_machine_sends.specs.Waiting.{BlockWaits, with_block}
-use Rattle.ns_machine_turns.specs.Looping.{BlockStands, ComesToWait, LoopsBy, sent_by}
-use Rattle.ns_machine_turns.specs.Turning.{ChargesAtMost, GoesAlong, HasGone, MovesChargeOne, MovesGoAlong}
+use Rattle.ns_machine_turns.specs.declared.acting.Acted.{Acted}
+use Rattle.ns_machine_turns.specs.declared.acting.Acted.TheVariants.{Evaluates, Goes}
+use Rattle.ns_machine_turns.specs.Looping.{ActsTo, BlockStands, ComesToWait, HasActed, LoopsBy, sent_by}
+use Rattle.ns_machine_turns.specs.Turning.{ChargesAtMost, GoesAlong, HasGone, HasGoneOnce, MovesChargeOne, MovesGoAlong}
 
 -- It is the method of that frame,
 pub loops_by : (frames others : List Frame) (frame : LoopingFrame) (method : KMethod) → frames ≡ Looping frame ∷ others → frame.method ≡ method → LoopsBy method frames
@@ -38,6 +42,40 @@ looping_by frames others frame method top loops = on (subst (LoopsBy method) top
   where
     on : frame.method ≡ method → frames ≡ Looping (record frame { method = method }) ∷ others
     on is = subst (λ (m : KMethod). frames ≡ Looping (record frame { method = m }) ∷ others) is top
+
+-- At every moment at which it is topmost it can act.
+pub loops_act : (code : CodeProgram) (grants : Grants) (core : Core) (at : Registers) (method : KMethod) → ReadyCanAct code grants
+    → MachineIsReady code grants core (On at) → LoopsBy method core.stack.frames.items → CanAct code core at
+loops_act code grants core at method can ready loops = by_frames core.stack.frames.items refl loops
+  where
+    by_frames : (frames : List Frame) → core.stack.frames.items ≡ frames → LoopsBy method frames → CanAct code core at
+    by_frames [] e loops = absurd loops
+    by_frames (Running frame ∷ frames) e loops = absurd loops
+    by_frames (Looping frame ∷ frames) e loops =
+        can core at frame ready (e ∙ ap (λ (all : List Frame). Looping frame ∷ below all) (sym e))
+
+-- ---- what its next action comes to
+
+module _ (code : CodeProgram) (law : MovesGoAlong code) (one : MovesChargeOne code) (plan : Plan) (sends : OwnSends) (left : ℕ) (first core new : Core)
+    (began from : Registers) (along : GoesAlong code plan sends left first (On began) core (On from))
+    (free : core.run.world.world.steps ≡ first.run.world.world.steps) (some : 1 ≤ left) where
+  -- A move from where others have led that charged nothing leads on, and charges one step at most.
+  once_more : (after : Core) (next : Next) → MakesMove code core (On from) after next → HasGoneOnce code plan sends left first (On began) after next
+  once_more after next moved = (
+    law plan sends left first core after (On began) (On from) next along refl refl (omega (arith, some, free)) moved,
+    let few = one plan sends core after (On from) next along.runs refl moved in omega (arith, few, free),
+  )
+
+  -- So does that action.
+  pub acts_along : (to : Acted) → ActsTo code left core from new to → HasActed code plan sends left first began new to
+  acts_along (Evaluates next top base cell) waits =
+      let above : Registers = record { next = next; top = top; base = base } in
+      let once : HasGoneOnce code plan sends left first (On began) (awaiting waits.looping (Ref cell) new) (Waits above) =
+      once_more (awaiting waits.looping (Ref cell) new) (Waits above) waits.moves in
+      let few = once.1 in
+      let two = waits.some in
+      record { looping = waits.looping; along = once.0.along; few = omega (arith, few, two); one = few; top = waits.top; place = waits.place }
+  acts_along (Goes next) moved = once_more new next moved
 
 -- ---- where it waits for a block
 

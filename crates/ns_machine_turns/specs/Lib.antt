@@ -5,4 +5,5 @@ pub mod Resending
 pub mod Quickly
 pub mod Above
 pub mod Looping
+pub mod Repeating
 pub mod Ways

@@ -1,5 +1,5 @@
 -- The method of the kernel that is topmost.
-use Rattle.std.specs.Prelude.{◌≡◌, ◌-◌, ◌<◌, ℕ, List, [], ◌∷◌, length}
+use Rattle.std.specs.Prelude.{◌≡◌, ◌-◌, ◌<◌, ◌≤◌, ℕ, List, [], ◌∷◌, length}
 use Rattle.ns_code.specs.declared.program.CodeProgram.{CodeProgram}
 use Rattle.ns_facets.specs.declared.row.Grants.{Grants}
 use Rattle.ns_world.specs.declared.kernel_parts.KMethod.{KMethod}
@@ -12,6 +12,7 @@ use Rattle.ns_machine_plan.specs.declared.plan.Plan.{Plan}
 use Rattle.ns_machine_core.specs.declared.own.OwnSends.{OwnSends}
 use Rattle.ns_machine_core.specs.declared.state.Core.{Core}
 use Rattle.ns_machine_core.specs.declared.state.Next.TheVariants.{On, Waits}
+use Rattle.ns_machine_core.specs.Ready.{MakesMove}
 use Rattle.ns_machine_returns.specs.Acting.{IsTopmost, awaiting}
 use Rattle.ns_machine_sends.specs.declared.sent.Sent.{Sent}
 use Rattle.ns_machine_sends.specs.Waiting.{BlockWaits}
@@ -45,6 +46,20 @@ pub record ComesToWait (code : CodeProgram) (plan : Plan) (sends : OwnSends) (le
   pub one : ChargesAtMost 1 old new
   pub top : IsTopmost looping new.stack.frames.items
   pub place : looping.floor < length new.stack.values.items
+
+-- By its next action the topmost method of the kernel comes to wait for the block of that cell, if that were written, and two steps were left.
+pub record WaitsFor (code : CodeProgram) (left : ℕ) (old : Core) (from : Registers) (new : Core) (at : Registers) (cell : ℕ) : Type 0 where
+  pub looping : LoopingFrame
+  pub moves : MakesMove code old (On from) (awaiting looping (Ref cell) new) (Waits at)
+  pub some : 2 ≤ left
+  pub top : IsTopmost looping new.stack.frames.items
+  pub place : looping.floor < length new.stack.values.items
+
+-- That action is its move: it comes to wait so, or the move leads there.
+abbrev pub ActsTo : CodeProgram → ℕ → Core → Registers → Core → Acted → Type 0
+ActsTo code left old from new (Evaluates next top base cell) =
+    WaitsFor code left old from new (record { next = next; top = top; base = base }) cell
+ActsTo code left old from new (Goes next) = MakesMove code old (On from) new next
 
 -- It has come to that by its next action, or moves have led on; and one step was charged at most.
 abbrev pub HasActed : CodeProgram → Plan → OwnSends → ℕ → Core → Registers → Core → Acted → Type 0

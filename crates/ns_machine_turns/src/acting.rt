@@ -3,12 +3,12 @@
 ghost use Rattle.std.specs.Prelude.{◌≡◌, ◌∷◌, ◌≤◌};
 ghost use Rattle.ns_machine_frames.specs.declared.frame.Frame.TheVariants.{Looping};
 ghost use Rattle.ns_machine_frames.specs.Standing.{below};
-ghost use Rattle.ns_world.specs.declared.kernel_parts.KMethod.TheVariants.{ToDo};
 ghost use Rattle.ns_world.specs.declared.value.Value.TheVariants.{Ref};
 ghost use Rattle.ns_machine_core.specs.declared.state.Next.TheVariants.{On, Waits};
+ghost use Rattle.ns_machine_core.specs.Own.{AreOwn};
 ghost use Rattle.ns_machine_core.specs.Ready.{MakesMove};
-ghost use Rattle.ns_machine_returns.specs.Acting.{IsLooping, IsTopmost, awaiting};
-ghost use Rattle.ns_machine_turns.specs.Looping.{BlockStands, HasActed, LoopsBy};
+ghost use Rattle.ns_machine_returns.specs.Acting.{CanAct, IsLooping, IsTopmost, awaiting};
+ghost use Rattle.ns_machine_turns.specs.Looping.{ActsTo, BlockStands, HasActed, LoopsBy};
 ghost use Rattle.ns_machine_turns.specs.Turning.{ChargesAtMost, HasGone, RunsBy};
 
 use crate::laws::{moves_charge_one, moves_go_along};
@@ -75,58 +75,6 @@ pub fn act_along(
     }
 }
 
-/// The same, where it is united with what calls it for `to:do:`, which has more turns than any other.
-#[inline(always)]
-#[tactic(auto, using(crate::proofs::Looped::loops_by))]
-pub fn act_here(
-    plan: &Plan,
-    code: &CodeProgram,
-    core: &mut Core,
-    at: Registers,
-    left: u64,
-    own: OwnSends,
-) -> Next
-    requires runs { RunsBy code.now plan.now own core.old (On at) }
-    requires loops { IsLooping core.old.stack.frames.items }
-    requires some { 1 ≤ left }
-    ensures gone { HasGone code.now plan.now own left core.old (On at) core.new result }
-    ensures few { ChargesAtMost 2 core.old core.new }
-{
-    match looping(&core.stack).method {
-        KMethod::ToDo => turn_to_do(plan, code, core, at, left, own),
-        _ => act_along(plan, code, core, at.next, at.top, at.base, left, own),
-    }
-}
-
-/// Does the next action of `to:do:`.
-#[inline(always)]
-fn turn_to_do(
-    plan: &Plan,
-    code: &CodeProgram,
-    core: &mut Core,
-    at: Registers,
-    left: u64,
-    own: OwnSends,
-) -> Next
-    requires runs { RunsBy code.now plan.now own core.old (On at) }
-    requires loops { LoopsBy ToDo core.old.stack.frames.items }
-    requires some { 1 ≤ left }
-    ensures gone { HasGone code.now plan.now own left core.old (On at) core.new result }
-    ensures few { ChargesAtMost 2 core.old core.new }
-{
-    moves_go_along();
-    moves_charge_one();
-    match act_as(plan, code, core, at, left, own, KMethod::ToDo) {
-        Acted::Evaluates {
-            next,
-            top,
-            base,
-            cell,
-        } => evaluate(code, core, Registers { next, top, base }, cell),
-        Acted::Goes(to) => to,
-    }
-}
-
 /// Does the next action, in code for each method: what another method asks for isn't read then.
 #[inline(always)]
 #[tactic(auto, using(crate::proofs::Looped::loops_by))]
@@ -182,6 +130,24 @@ fn act_as(
     moves_charge_one();
     topmost_methods_can_act();
     let _plan = plan;
+    act_on(code, core, at, left, own, method)
+}
+
+/// The same, where nothing is said but what move it is: the method can act.
+#[inline(always)]
+pub fn act_on(
+    code: &CodeProgram,
+    core: &mut Core,
+    at: Registers,
+    left: u64,
+    own: OwnSends,
+    method: KMethod,
+) -> Acted
+    requires can { CanAct code.now core.old at }
+    requires own { AreOwn code.now core.old.places own }
+    requires loops { LoopsBy method core.old.stack.frames.items }
+    ensures { ActsTo code.now left core.old at core.new result }
+{
     let frame = looping_by(&core.stack, method);
     match ask(code, core, at, frame) {
         Waited::Evaluates {
@@ -236,7 +202,7 @@ fn let_wait(core: &mut Core, next: u32, top: u32, base: u32, block: Value) -> Ne
 /// Evaluates the block of that cell, for which the topmost method of the kernel waits, at once: nothing that waits is written. The
 /// site is read from the topmost frame, in one place for all such methods.
 #[inline(always)]
-fn evaluate(code: &CodeProgram, core: &mut Core, at: Registers, cell: u32) -> Next
+pub fn evaluate(code: &CodeProgram, core: &mut Core, at: Registers, cell: u32) -> Next
     requires { (looping : LoopingFrame) × BlockStands code.now core.old at looping cell }
     ensures { (looping : LoopingFrame) → BlockStands code.now core.old at looping cell
         → MakesMove code.now (awaiting looping (Ref cell) core.old) (Waits at) core.new result }

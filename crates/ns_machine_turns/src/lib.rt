@@ -11,6 +11,7 @@ pub mod laws;
 pub mod moving;
 mod performing;
 pub mod quickly;
+pub mod repeating;
 pub mod resending;
 pub mod stepping;
 pub mod turning;

@@ -9,6 +9,7 @@ ghost use Rattle.ns_machine_turns.specs.Quickly.{MovesOrNot};
 
 use crate::fetching::fetch_from;
 use crate::performing::perform;
+use crate::repeating::ends_turn;
 use ns_code::program::CodeProgram;
 use ns_machine_core::laws::{moves_keep_machines_ready, passing_keeps_machines_ready};
 use ns_machine_core::led::Led;
@@ -17,6 +18,17 @@ use ns_machine_core::state::Core;
 use ns_machine_frames::registers::Registers;
 use ns_machine_plan::kept_step::KeptSteps;
 use ns_machine_plan::plan::Plan;
+
+/// Where the next step of a body leads by the quick way, as `Led` tells it; or nothing was done, since it ends a turn of `to:do:`.
+#[derive(Clone, Copy)]
+pub enum Went {
+    Straight(Registers),
+    Charged(Registers),
+    On(Registers),
+    Answered(Registers),
+    Turns,
+    Nowhere,
+}
 
 /// Does the next step of the body that runs in the topmost frame, where it is one of those that are taken most; else nothing
 /// has changed but lookups that are kept.
@@ -28,7 +40,7 @@ pub fn go_quickly(
     at: Registers,
     top: OnTop,
     steps: KeptSteps<'_>,
-) -> Led
+) -> Went
     requires prepared { IsPrepared code.now plan.now core.old.places }
     requires can { IsPreparedToRun code.now core.old (next.On at) }
     requires top { IsOnTop code.now top core.old.stack.frames.items }
@@ -42,11 +54,14 @@ pub fn go_quickly(
         next: at.next + 1,
         ..at
     };
+    if ends_turn(&core.stack, step) {
+        return Went::Turns;
+    }
     match perform(code, core, behind, top, step) {
-        Led::Straight(to) => Led::Straight(to),
-        Led::Charged(to) => Led::Charged(to),
-        Led::On(to) => Led::On(to),
-        Led::Answered(to) => Led::Answered(to),
-        Led::Nowhere => Led::Nowhere,
+        Led::Straight(to) => Went::Straight(to),
+        Led::Charged(to) => Went::Charged(to),
+        Led::On(to) => Went::On(to),
+        Led::Answered(to) => Went::Answered(to),
+        Led::Nowhere => Went::Nowhere,
     }
 }

@@ -1,6 +1,6 @@
 //! Turns: so many moves as so many steps allow.
 
-ghost use Rattle.std.specs.Prelude.{◌≡◌, ◌-◌, ◌≤◌, false};
+ghost use Rattle.std.specs.Prelude.{◌≡◌, ◌-◌, ◌<◌, ◌≤◌, length, true, false};
 ghost use Rattle.ns_code.specs.declared.program.CodeProgram.{CodeProgram};
 ghost use Rattle.ns_facets.specs.declared.row.Grants.{Grants};
 ghost use Rattle.ns_moves.specs.Turn.{is_still, Turns};
@@ -16,21 +16,22 @@ ghost use Rattle.ns_machine_turns.specs.declared.way.Way.TheVariants as way;
 ghost use Rattle.ns_machine_turns.specs.Ways as spec;
 ghost use Rattle.ns_machine_turns.specs.Ways.{HasLed};
 
-use crate::acting::{act_along, act_here};
+use crate::acting::act_along;
 use crate::blockwise::move_on;
 use crate::charging::charges;
 use crate::laws::{moves_charge_one, moves_go_along, passing_goes_along};
 use crate::moving::{step, take_up, take_up_soon};
-use crate::quickly::go_quickly;
+use crate::quickly::{Went, go_quickly};
+use crate::repeating::turn_over;
 use crate::way::Way;
 use ns_code::program::CodeProgram;
 use ns_machine_core::laws::{moves_keep_machines_ready, turns_go_by_moves};
-use ns_machine_core::led::Led;
 use ns_machine_core::on_top::OnTop;
 use ns_machine_core::own::OwnSends;
 use ns_machine_core::state::{Core, Next};
 use ns_machine_frames::frame::Frame;
 use ns_machine_frames::registers::Registers;
+use ns_machine_frames::stack::Stack;
 use ns_machine_plan::laws::running_bodies_have_steps;
 use ns_machine_plan::plan::Plan;
 use ns_moves::falling::moves_lower;
@@ -145,7 +146,9 @@ fn run_along(
                 Way::Waits(to) => return Next::Waits(to),
                 Way::Ended => return Next::Ended,
             },
-            Frame::Looping(_) => match act_here(plan, code, core, here, rest, own) {
+            Frame::Looping(_) => match act_along(
+                plan, code, core, here.next, here.top, here.base, rest, own,
+            ) {
                 Next::On(to) => {
                     if rest <= 2 {
                         return Next::On(to);
@@ -195,21 +198,49 @@ fn go_straight(
             ..here
         };
         match go_quickly(plan, code, core, here, top, steps) {
-            Led::Straight(to) => here = to,
-            Led::Charged(to) => {
+            Went::Straight(to) => here = to,
+            Went::Charged(to) => {
                 rest -= 1;
                 if rest == 0 {
                     return Way::On { to, sure: 0 };
                 }
                 here = to;
             }
-            Led::On(to) => return way_on(to, rest),
-            Led::Answered(to) => return way_on(to, rest),
-            Led::Nowhere => {
+            Went::On(to) => return way_on(to, rest),
+            Went::Answered(to) => return way_on(to, rest),
+            Went::Turns => {
+                let way = way_of(turn_over(plan, code, core, here, rest, own), rest);
+                match way {
+                    Way::On { to, sure } => {
+                        if sure == 0 {
+                            return way;
+                        }
+                        if !is_on_top(&core.stack, body) {
+                            return way;
+                        }
+                        rest = sure;
+                        here = to;
+                    }
+                    Way::Waits(_) | Way::Ended => return way,
+                }
+            }
+            Went::Nowhere => {
                 let before = step_back(behind);
                 return way_of(go_apart(plan, code, core, before, rest, own), rest);
             }
         }
+    }
+}
+
+/// Whether the topmost frame is one of that body.
+#[inline(always)]
+fn is_on_top(stack: &Stack, body: u32) -> bool
+    requires { 0 < length stack.now.frames.items }
+    ensures { result ≡ true → TopRunsBody body stack.now.frames.items }
+{
+    match *stack.topmost() {
+        Frame::Running(frame) => frame.activation.body == body,
+        Frame::Looping(_) => false,
     }
 }
 

@@ -2,9 +2,10 @@ use Rattle.std.proofs.Common.{◌-◌, ◌<◌, ◌∙◌, refl, arith, sym, sub
 use Rattle.ns_machine_frames.specs.declared.registers.Registers.{Registers}
 use Rattle.ns_machine_core.specs.declared.state.Next.TheVariants.{On}
 use Rattle.ns_machine_turns.specs.Turning.{HasGone, RunsBy}
-use Rattle.ns_machine_turns.specs.Ways.{HasLed}
+use Rattle.ns_machine_turns.specs.Ways.{HasLed, way_of}
 use Rattle.ns_machine_turns.specs.declared.way.Way.{Way}
-use Rattle.ns_machine_turns.proofs.Along.{none_gone, body_gone, body_falls, way_led}
+use Rattle.ns_machine_turns.specs.declared.way.Way.TheVariants as way
+use Rattle.ns_machine_turns.proofs.Along.{none_gone, body_gone, body_falls, turned_falls, turned_led, way_led}
 use Rattle.ns_machine_turns.proofs.Untouched.{untouched_along, untouched_far, untouched_steps}
 use Rattle.ns_machine_turns.proofs.Fetched.{body_has_step, few_steps, stepped_back}
 use Rattle.ns_machine_turns.proofs.turning.go_straight.Goals as goal
@@ -72,13 +73,13 @@ returns-then-rest-eq0 c =
       few = omega arith;
     }
 
-pub straight-smaller : goal.straight-smaller
-straight-smaller c =
+pub straight-smaller-in-Charged : goal.straight-smaller-in-Charged
+straight-smaller-in-Charged c =
     body_falls c.args.code.now (c.moves_go_along.ensures c.args.code.now) c.args.plan.now c.args.own c.straight.core c.go_quickly.new.core c.straight.here
     (On c.in-Charged.to) c.straight.invariant.along.runs c.in-Charged.ensures.moves
 
-pub straight-preserved : goal.straight-preserved
-straight-preserved c =
+pub straight-preserved-in-Charged : goal.straight-preserved-in-Charged
+straight-preserved-in-Charged c =
     let gone = body_gone c.args.code.now (c.moves_go_along.ensures c.args.code.now) c.args.plan.now c.args.own c.args.left c.straight.rest c.args.core.now
     c.straight.core c.go_quickly.new.core c.args.at c.straight.here (On c.in-Charged.to) c.straight.invariant.some c.straight.invariant.rest
     c.straight.invariant.along c.in-Charged.ensures.moves in
@@ -92,6 +93,61 @@ straight-preserved c =
       rest = omega (arith, rest, more, onward);
       some = omega (arith, some, c.if-rest-eq0.false);
       runs = stays.runs;
+    }
+
+-- ---- a turn of `to:do:` over, and the next one begun
+
+pub returns-then-sure-eq0 : goal.returns-then-sure-eq0
+returns-then-sure-eq0 c =
+    let led : HasLed c.args.code.now c.args.plan.now c.args.own c.args.left c.args.core.now (On c.args.at) c.turn_over.new.core
+    (way_of c.turn_over.result c.straight.rest) =
+    turned_led c.args.code.now c.args.plan.now c.args.own c.args.left c.straight.rest c.args.core.now c.straight.core c.go_quickly.new.core
+    c.turn_over.new.core (On c.args.at) (On c.straight.here) c.turn_over.result c.straight.invariant.along refl c.in-Turns.ensures.1
+    c.straight.invariant.rest c.turn_over.ensures.few c.turn_over.ensures.gone in
+    subst (λ (way : Way). HasLed c.args.code.now c.args.plan.now c.args.own c.args.left c.args.core.now (On c.args.at) c.turn_over.new.core way)
+    (sym c.way_of-way.ensures ∙ c.in-On-way.is) led
+
+pub returns-then-not-is_on_top : goal.returns-then-not-is_on_top
+returns-then-not-is_on_top c =
+    let led : HasLed c.args.code.now c.args.plan.now c.args.own c.args.left c.args.core.now (On c.args.at) c.turn_over.new.core
+    (way_of c.turn_over.result c.straight.rest) =
+    turned_led c.args.code.now c.args.plan.now c.args.own c.args.left c.straight.rest c.args.core.now c.straight.core c.go_quickly.new.core
+    c.turn_over.new.core (On c.args.at) (On c.straight.here) c.turn_over.result c.straight.invariant.along refl c.in-Turns.ensures.1
+    c.straight.invariant.rest c.turn_over.ensures.few c.turn_over.ensures.gone in
+    subst (λ (way : Way). HasLed c.args.code.now c.args.plan.now c.args.own c.args.left c.args.core.now (On c.args.at) c.turn_over.new.core way)
+    (sym c.way_of-way.ensures ∙ c.in-On-way.is) led
+
+pub returns-in-Waits : goal.returns-in-Waits
+returns-in-Waits c =
+    let led : HasLed c.args.code.now c.args.plan.now c.args.own c.args.left c.args.core.now (On c.args.at) c.turn_over.new.core
+    (way_of c.turn_over.result c.straight.rest) =
+    turned_led c.args.code.now c.args.plan.now c.args.own c.args.left c.straight.rest c.args.core.now c.straight.core c.go_quickly.new.core
+    c.turn_over.new.core (On c.args.at) (On c.straight.here) c.turn_over.result c.straight.invariant.along refl c.in-Turns.ensures.1
+    c.straight.invariant.rest c.turn_over.ensures.few c.turn_over.ensures.gone in
+    subst (λ (way : Way). HasLed c.args.code.now c.args.plan.now c.args.own c.args.left c.args.core.now (On c.args.at) c.turn_over.new.core way)
+    (sym c.way_of-way.ensures) led
+
+pub straight-smaller : goal.straight-smaller
+straight-smaller c =
+    turned_falls c.args.code.now c.straight.core c.go_quickly.new.core c.turn_over.new.core (On c.straight.here) c.turn_over.result c.straight.rest
+    c.in-On-way.sure c.in-On-way.to c.in-Turns.ensures.1 (sym c.way_of-way.ensures ∙ c.in-On-way.is) c.turn_over.ensures.gone.falls
+
+pub straight-preserved : goal.straight-preserved
+straight-preserved c =
+    let led : HasLed c.args.code.now c.args.plan.now c.args.own c.args.left c.args.core.now (On c.args.at) c.turn_over.new.core
+    (way_of c.turn_over.result c.straight.rest) =
+    turned_led c.args.code.now c.args.plan.now c.args.own c.args.left c.straight.rest c.args.core.now c.straight.core c.go_quickly.new.core
+    c.turn_over.new.core (On c.args.at) (On c.straight.here) c.turn_over.result c.straight.invariant.along refl c.in-Turns.ensures.1
+    c.straight.invariant.rest c.turn_over.ensures.few c.turn_over.ensures.gone in
+    let on : HasLed c.args.code.now c.args.plan.now c.args.own c.args.left c.args.core.now (On c.args.at) c.turn_over.new.core
+    (way.On c.in-On-way.to c.in-On-way.sure) =
+    subst (λ (way : Way). HasLed c.args.code.now c.args.plan.now c.args.own c.args.left c.args.core.now (On c.args.at) c.turn_over.new.core way)
+    (sym c.way_of-way.ensures ∙ c.in-On-way.is) led in
+    record {
+      along = on.gone.along;
+      rest = on.few;
+      some = omega (arith, c.if-sure-eq0.false);
+      runs = c.is_on_top.ensures c.if-not-is_on_top.false;
     }
 
 -- ---- one move more

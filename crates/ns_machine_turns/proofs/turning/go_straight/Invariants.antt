@@ -1,4 +1,4 @@
-use Rattle.std.proofs.Common.{◌≡◌, ◌-◌, ◌≤◌}
+use Rattle.std.proofs.Common.{◌-◌, ◌≤◌}
 use Rattle.ns_machine_core.specs.declared.state.Next.TheVariants.{On}
 use Rattle.ns_machine_core.specs.Shown.{shown}
 use Rattle.ns_machine_core.specs.Straight.{TopRunsBody}
@@ -9,7 +9,7 @@ use Rattle.ns_machine_turns.proofs.turning.go_straight.Given as goal
 abbrev pub invariant-straight : goal.invariant-straight
 invariant-straight l = record {
   along : GoesAlong l.code l.plan l.own l.left l.fn.core (On l.fn.at) l.core (On l.here);
-  rest : l.rest ≡ l.left - (l.core.run.world.world.steps - l.fn.core.run.world.world.steps);
+  rest : l.rest ≤ l.left - (l.core.run.world.world.steps - l.fn.core.run.world.world.steps);
   some : 1 ≤ l.rest;
   runs : TopRunsBody l.body l.core.stack.frames.items;
 }

@@ -45,26 +45,26 @@ returns-in-Ended c =
 
 pub returns-then-rest-le2 : goal.returns-then-rest-le2
 returns-then-rest-le2 c =
-    gone_far c.args.code.now c.args.plan.now c.args.own c.args.left c.along.rest c.args.core.now c.along.core c.act_here.new.core (On c.args.at)
-    (On c.along.here) (On c.in-On-act_here.to) c.along.invariant.rest c.along.invariant.along refl c.in-On-act_here.ensures.gone
+    gone_far c.args.code.now c.args.plan.now c.args.own c.args.left c.along.rest c.args.core.now c.along.core c.act_along.new.core (On c.args.at)
+    (On c.along.here) (On c.in-On-act_along.to) c.along.invariant.rest c.along.invariant.along refl c.in-On-act_along.ensures.gone
 
 pub along-preserved : goal.along-preserved
 along-preserved c =
-    let gone : HasGone c.args.code.now c.args.plan.now c.args.own c.args.left c.args.core.now (On c.args.at) c.act_here.new.core (On c.in-On-act_here.to) =
-    gone_far c.args.code.now c.args.plan.now c.args.own c.args.left c.along.rest c.args.core.now c.along.core c.act_here.new.core (On c.args.at)
-    (On c.along.here) (On c.in-On-act_here.to) c.along.invariant.rest c.along.invariant.along refl c.in-On-act_here.ensures.gone in
+    let gone : HasGone c.args.code.now c.args.plan.now c.args.own c.args.left c.args.core.now (On c.args.at) c.act_along.new.core (On c.in-On-act_along.to) =
+    gone_far c.args.code.now c.args.plan.now c.args.own c.args.left c.along.rest c.args.core.now c.along.core c.act_along.new.core (On c.args.at)
+    (On c.along.here) (On c.in-On-act_along.to) c.along.invariant.rest c.along.invariant.along refl c.in-On-act_along.ensures.gone in
     let rest = c.along.invariant.rest in
-    let few = c.act_here.ensures.few in
+    let few = c.act_along.ensures.few in
     let before = c.along.invariant.along.onward in
     let onward = gone.along.onward in
     record { along = gone.along; rest = omega (arith, rest, few, before, onward); some = omega (arith, c.if-rest-le2.false) }
 
-pub returns-in-Waits-act_here : goal.returns-in-Waits-act_here
-returns-in-Waits-act_here c =
-    gone_far c.args.code.now c.args.plan.now c.args.own c.args.left c.along.rest c.args.core.now c.along.core c.act_here.new.core (On c.args.at)
-    (On c.along.here) (Waits c.in-Waits-act_here.to) c.along.invariant.rest c.along.invariant.along refl c.in-Waits-act_here.ensures.gone
+pub returns-in-Waits-act_along : goal.returns-in-Waits-act_along
+returns-in-Waits-act_along c =
+    gone_far c.args.code.now c.args.plan.now c.args.own c.args.left c.along.rest c.args.core.now c.along.core c.act_along.new.core (On c.args.at)
+    (On c.along.here) (Waits c.in-Waits-act_along.to) c.along.invariant.rest c.along.invariant.along refl c.in-Waits-act_along.ensures.gone
 
-pub returns-in-Ended-act_here : goal.returns-in-Ended-act_here
-returns-in-Ended-act_here c =
-    gone_far c.args.code.now c.args.plan.now c.args.own c.args.left c.along.rest c.args.core.now c.along.core c.act_here.new.core (On c.args.at)
-    (On c.along.here) Ended c.along.invariant.rest c.along.invariant.along refl c.in-Ended-act_here.ensures.gone
+pub returns-in-Ended-act_along : goal.returns-in-Ended-act_along
+returns-in-Ended-act_along c =
+    gone_far c.args.code.now c.args.plan.now c.args.own c.args.left c.along.rest c.args.core.now c.along.core c.act_along.new.core (On c.args.at)
+    (On c.along.here) Ended c.along.invariant.rest c.along.invariant.along refl c.in-Ended-act_along.ensures.gone
