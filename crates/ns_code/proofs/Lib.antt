@@ -1,2 +1,4 @@
 mod LocalNames
 mod United
+mod Listing
+mod Fronting

@@ -9,3 +9,6 @@ pub mod Selectors
 pub mod Sample
 pub mod LocalNames
 pub mod Instructions
+pub mod Fronts
+pub mod MemberNames
+pub mod Listed

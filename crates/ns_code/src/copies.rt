@@ -61,6 +61,12 @@ impl TryClone for BodyCode {
     }
 }
 
+impl<T: TryClone> TryClone for Items<T> {
+    fn try_clone(&self, alloc: Global) -> Result<Items<T>, NoMemory> {
+        clones_of(alloc, self.as_slice())
+    }
+}
+
 impl TryClone for ClassCode {
     fn try_clone(&self, alloc: Global) -> Result<ClassCode, NoMemory> {
         let slots = copies_of(alloc, self.slots.as_slice())?;
@@ -86,9 +92,9 @@ impl TryClone for ClassCode {
 impl TryClone for CodeProgram {
     fn try_clone(&self, alloc: Global) -> Result<CodeProgram, NoMemory> {
         let files = clones_of(alloc, self.files.as_slice())?;
-        let names = clones_of(alloc, self.names.as_slice())?;
+        let names = self.names.try_clone(alloc)?;
         let texts = clones_of(alloc, self.texts.as_slice())?;
-        let classes = clones_of(alloc, self.classes.as_slice())?;
+        let classes = self.classes.try_clone(alloc)?;
         let bodies = clones_of(alloc, self.bodies.as_slice())?;
         Ok(CodeProgram {
             files,

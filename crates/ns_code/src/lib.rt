@@ -5,11 +5,15 @@
 
 pub mod body;
 pub mod class;
+pub mod classes;
 pub mod copies;
 pub mod instruction;
 pub mod instructions;
 pub mod kinds;
+pub mod listed;
 pub mod local_names;
+pub mod names;
+mod naming;
 pub mod own;
 pub mod program;
 pub mod selector;

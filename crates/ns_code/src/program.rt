@@ -1,7 +1,8 @@
 //! A program in code.
 
 use crate::body::BodyCode;
-use crate::class::ClassCode;
+use crate::classes::Classes;
+use crate::names::Names;
 use ns_base::items::Items;
 use ns_base::text::Text;
 
@@ -13,8 +14,8 @@ pub const MOST_NAMES: usize = 65_536;
 #[derive(Drop)]
 pub struct CodeProgram {
     pub files: Items<Text>,
-    pub names: Items<Text>,
+    pub names: Names,
     pub texts: Items<Text>,
-    pub classes: Items<ClassCode>,
+    pub classes: Classes,
     pub bodies: Items<BodyCode>,
 }

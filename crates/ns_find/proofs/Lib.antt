@@ -7,3 +7,5 @@ pub mod Outward
 pub mod Staying
 pub mod Later
 mod Spelled
+mod Fronts
+mod Declaring

@@ -1,8 +1,8 @@
 -- A declaration that has no member of a name has none for any holder.
-use Rattle.std.proofs.Common.{◌≡◌, ◌≢◌, ℕ, ◌+◌, ◌<◌, List, [], ◌∷◌, ◌++◌, length, get_or, set, replicate, refl, ap, sym, ◌∙◌, arith, Option, Some, None, Bool, true, false, eqb, ◌==◌, ◌||◌, ◌&&◌, slice_get, length-set, if◌then◌else◌}
+use Rattle.std.proofs.Common.{◌≡◌, ◌≢◌, ℕ, ◌+◌, ◌<◌, List, [], ◌∷◌, ◌++◌, length, get_or, set, refl, ap, sym, ◌∙◌, arith, Option, Some, None, Bool, true, false, eqb, ◌==◌, ◌||◌, ◌&&◌, slice_get, length-set, if◌then◌else◌}
 use Rattle.std.specs.Option.{option_map_or}
 use Rattle.std.proofs.lemmas.Bool.{eqb-true, eq-eqb}
-use Rattle.std.proofs.lemmas.List.{get_or-replicate, get_or-set_other, length-replicate}
+use Rattle.std.proofs.lemmas.List.{get_or-set_other}
 use Rattle.ns_code.specs.declared.program.CodeProgram.{CodeProgram}
 use Rattle.ns_code.specs.declared.class.ClassCode.{ClassCode}
 use Rattle.ns_code.specs.declared.class.SlotCode.{SlotCode}
@@ -20,7 +20,7 @@ use Rattle.ns_find.specs.Passed.{PassedHaveNone}
 
 module _ (code : CodeProgram) (sel : ℕ) where
   -- whether one of some members has the name
-  abbrev is_among : List Member → Bool
+  abbrev pub is_among : List Member → Bool
   is_among [] = false
   is_among (member ∷ members) = (is_named code sel member.name && member.there) || is_among members
 
@@ -33,7 +33,7 @@ module _ (code : CodeProgram) (sel : ℕ) where
       tested true e below = absurd (cc)
       tested false e below = below e
 
-  among_none : (kind : Sending) (members : List Member) → is_among members ≡ false → search code sel kind members ≡ None
+  pub among_none : (kind : Sending) (members : List Member) → is_among members ≡ false → search code sel kind members ≡ None
   among_none kind [] e = refl
   among_none kind (member ∷ members) e = tested (is_named code sel member.name && member.there) e (among_none kind members)
     where
@@ -42,7 +42,7 @@ module _ (code : CodeProgram) (sel : ℕ) where
       tested true e below = absurd (cc)
       tested false e below = below e
 
-  among_both : (first later : List Member) → is_among (first ++ later) ≡ (is_among first || is_among later)
+  pub among_both : (first later : List Member) → is_among (first ++ later) ≡ (is_among first || is_among later)
   among_both [] later = refl
   among_both (member ∷ first) later = tested (is_named code sel member.name && member.there) (among_both first later)
     where
@@ -115,13 +115,6 @@ none_declared heap code side sel kind wanted holder declaration declared visible
     ∙ (ap (λ w. search code sel kind (side_members heap code w side holder declared)) (sym visible) ∙ sym none)
 
 -- ---- the declarations that were passed
-
-pub none_passed : (heap : Heap) (code : CodeProgram) (side : Side) (sel : ℕ) (kind : Sending) (count : ℕ) →
-    PassedHaveNone heap code side sel kind (replicate count false)
-none_passed heap code side sel kind count = λ holder lt is.
-    let no : get_or (replicate count false) (declaration_of heap holder) false ≡ false =
-    get_or-replicate count (declaration_of heap holder) false false (omega (arith, lt, length-replicate count false)) in
-    absurd (cc)
 
 -- the one of a holder that has no such member
 pub passed_more : (heap : Heap) (code : CodeProgram) (side : Side) (sel : ℕ) (kind : Sending) (passed : List Bool) (holder declaration : ℕ) →

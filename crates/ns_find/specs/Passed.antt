@@ -1,6 +1,7 @@
 -- Declarations that a lookup has passed.
-use Rattle.std.specs.Prelude.{◌≡◌, ℕ, ◌<◌, List, length, Bool, true, false, None}
+use Rattle.std.specs.Prelude.{◌≡◌, ℕ, ◌<◌, List, [], ◌∷◌, length, Bool, true, false, None, slice_set}
 use Rattle.std.specs.List.{slice_index_or}
+use Rattle.ns_code.specs.declared.listed.Listed.{Listed}
 use Rattle.ns_code.specs.declared.program.CodeProgram.{CodeProgram}
 use Rattle.ns_world.specs.Heap.{Heap}
 use Rattle.ns_world.specs.Layout.{declaration_of}
@@ -14,3 +15,8 @@ abbrev pub PassedHaveNone : Heap → CodeProgram → Side → ℕ → Sending �
 PassedHaveNone heap code side sel kind passed =
     (holder : ℕ) → declaration_of heap holder < length passed → slice_index_or passed (declaration_of heap holder) false ≡ true
     → search code sel kind (holder_members heap code Visible side holder) ≡ None
+
+-- flags of declarations, when those listed aren't passed any more
+abbrev pub without : List Bool → List Listed → List Bool
+without passed [] = passed
+without passed (one ∷ listed) = without (slice_set passed one.declaration false) listed

@@ -14,6 +14,7 @@ ghost use Rattle.ns_world.specs.declared.kernel.Start.TheVariants as start_is;
 use crate::found::{Found, Sending};
 use crate::kernel::row_named;
 use crate::members::{Asked, Side, Wanted, method, nested, slots};
+use crate::passing::stop_at_declaring;
 use ns_base::selector::Sel;
 use ns_code::class::ClassCode;
 use ns_code::program::CodeProgram;
@@ -204,7 +205,8 @@ fn along(world: &World, code: &CodeProgram, class: u32, side: Side, asked: Asked
     ensures { result ≡ spec.search code.now asked.sel.0 asked.kind
         (spec.members_along world.now.world.cells code.now side (chain_of world.now.world.cells class)) }
 {
-    let mut passed = [false; MOST_CLASSES];
+    let mut passed = [true; MOST_CLASSES];
+    stop_at_declaring(code, &mut passed, side, asked.sel);
     let mut at = class;
     'up: while !world.is_past(at) {
         match of_passing(world, code, &mut passed, at, side, asked) {

@@ -9,4 +9,5 @@ mod kernel;
 pub mod laws;
 pub mod members;
 pub mod memo;
+mod passing;
 pub mod ways;

@@ -13,6 +13,8 @@ use crate::units::put_units;
 use ns_base::items::Items;
 use ns_base::key::Key;
 use ns_base::no_memory::NoMemory;
+use ns_code::classes::Classes;
+use ns_code::names::Names;
 use ns_code::program::CodeProgram;
 use ns_gen_bodies::output::Output;
 use ns_gen_code::size::SizeKind;
@@ -87,9 +89,9 @@ fn code_of(
     let classes = class_codes(alloc, &names, classes)?;
     Ok(CodeProgram {
         files: Items::from_vec(files),
-        names: names.texts()?,
+        names: Names::of(alloc, names.texts()?)?,
         texts: Items::from_vec(texts),
-        classes: Items::from_vec(classes),
+        classes: Classes::of(alloc, Items::from_vec(classes))?,
         bodies: Items::from_vec(bodies),
     })
 }

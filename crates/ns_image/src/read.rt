@@ -15,6 +15,8 @@ use crate::read::text::{FileName, Literal, names};
 use ns_base::items::Items;
 use ns_base::text::Text;
 use ns_code::body::BodyCode;
+use ns_code::classes::Classes;
+use ns_code::names::Names;
 use ns_code::program::CodeProgram;
 use std::alloc::Global;
 
@@ -125,13 +127,13 @@ fn with_files<B: Format<Value = BodyCode>>(
 ) -> Result<CodeProgram, Fault>
     ensures { ReadsBytes (spec.with_files (B.reader body.now) files input.old.rest.now) result input.new.rest.now }
 {
-    let names = names(alloc, input)?;
+    let names = Names::of(alloc, names(alloc, input)?)?;
     let texts = texts(alloc, input)?;
     let mut code = CodeProgram {
         files,
         names,
         texts,
-        classes: Items::from_vec(Vec::new(alloc)),
+        classes: Classes::of(alloc, Items::from_vec(Vec::new(alloc)))?,
         bodies: Items::from_vec(Vec::new(alloc)),
     };
     match read_classes(alloc, input, body, &mut code) {
@@ -153,7 +155,8 @@ fn read_classes<B: Format<Value = BodyCode>>(
 ) -> Result<(), Fault>
     ensures { ReadsAs (λ _. code.new) (spec.with_classes (B.reader body.now) code.old input.old.rest.now) result input.new.rest.now }
 {
-    code.classes = up_to(alloc, input, &Class, MOST_CLASSES)?;
+    let classes = up_to(alloc, input, &Class, MOST_CLASSES)?;
+    code.classes = Classes::of(alloc, classes)?;
     code.bodies = up_to(alloc, input, body, MOST_BODIES)?;
     Ok(())
 }

@@ -14,9 +14,11 @@ use ns_base::selector::Sel;
 use ns_base::text::Text;
 use ns_code::body::BodyCode;
 use ns_code::class::{ClassCode, MethodCode, NestedCode, SlotCode};
+use ns_code::classes::Classes;
 use ns_code::instruction::Instr;
 use ns_code::instructions::Instructions;
 use ns_code::local_names::LocalNames;
+use ns_code::names::Names;
 use ns_code::program::CodeProgram;
 use ns_verify::fault::Fault;
 use ns_verify::faults::first_fault;
@@ -255,9 +257,9 @@ fn program(
     }
     Ok(CodeProgram {
         files: Items::from_vec(Vec::new(alloc)),
-        names: Items::from_vec(names),
+        names: Names::of(alloc, Items::from_vec(names))?,
         texts: Items::from_vec(texts),
-        classes: Items::from_vec(records),
+        classes: Classes::of(alloc, Items::from_vec(records))?,
         bodies: Items::from_vec(bodies),
     })
 }

@@ -11,8 +11,10 @@ use ns_base::selector::Sel;
 use ns_base::text::Text;
 use ns_code::body::BodyCode;
 use ns_code::class::{ClassCode, MethodCode, NestedCode, SlotCode};
+use ns_code::classes::Classes;
 use ns_code::instructions::Instructions;
 use ns_code::local_names::LocalNames;
+use ns_code::names::Names;
 use ns_code::program::CodeProgram;
 use std::alloc::Global;
 
@@ -25,7 +27,7 @@ pub fn program_code(alloc: Global) -> Result<CodeProgram, NoMemory>
     let bodies = bodies(alloc)?;
     Ok(CodeProgram {
         files: Items::from_vec(Vec::new(alloc)),
-        names,
+        names: Names::of(alloc, names)?,
         texts: Items::from_vec(Vec::new(alloc)),
         classes,
         bodies,
@@ -137,13 +139,13 @@ fn texts(alloc: Global, all: &[&[u8]]) -> Result<Vec<Text>, NoMemory>
     Ok(texts)
 }
 
-fn classes(alloc: Global) -> Result<Items<ClassCode>, NoMemory>
+fn classes(alloc: Global) -> Result<Classes, NoMemory>
     ensures { IfOk result (λ classes. classes ≡ spec.program_classes) }
 {
     let base = class_base(alloc)?;
     let sub = class_sub(alloc)?;
     let classes = vec![in alloc; base, class_part(alloc), sub, class_other(alloc)]?;
-    Ok(Items::from_vec(classes))
+    Classes::of(alloc, Items::from_vec(classes))
 }
 
 fn class_base(alloc: Global) -> Result<ClassCode, NoMemory>

@@ -86,6 +86,7 @@ record Names (code : CodeProgram) (number : ℕ) (class : ClassCode) : Type 0 wh
   side_methods : have_bodies code class_side number class.side_methods ≡ true
   params : has_params_of code class.factory class.params ≡ true
   factory : is_name code class.factory ≡ true
+  slots : list_any (λ (slot : SlotCode). not (is_identifier_name code slot.name)) class.slots ≡ false
   named : list_any (λ (method : MethodCode). not (is_name code method.sel)) class.methods ≡ false
   side_named : list_any (λ (method : MethodCode). not (is_name code method.sel)) class.side_methods ≡ false
 
@@ -114,9 +115,15 @@ names_of code number class fine =
       side_methods = sides.1;
       params = counts.1;
       factory = not_false (is_name code class.factory) after_one.0;
+      slots = four.0;
       named = five.0;
       side_named = five.1;
     }
+
+-- The slots of sound classes are named by identifiers.
+pub slots_named : (code : CodeProgram) (number : ℕ) (class : ClassCode) → has_sound_classes code ≡ true → slice_get code.classes number ≡ Some class →
+    list_any (λ (slot : SlotCode). not (is_identifier_name code slot.name)) class.slots ≡ false
+slots_named code number class s e = (names_of code number class (fine_at code number class s e)).slots
 
 -- a body that is there
 body_there : (code : CodeProgram) (number kind side class params : ℕ) (has : ℕ → Bool) → ((count : ℕ) → has count ≡ true → count ≡ params) →

@@ -3,12 +3,11 @@ use Rattle.ns_world.specs.Heap.{chain_of, superclass_of}
 use Rattle.ns_world.specs.laws.Above.{goes_on}
 use Rattle.ns_classes.specs.laws.Bounds.{lawful_small}
 use Rattle.ns_find.proofs.Parts.{along_here, along_past}
-use Rattle.ns_find.proofs.Passed.{none_passed}
 use Rattle.ns_find.proofs.find.along.Goals as goal
 
 pub up-init : goal.up-init
 up-init c =
-    (refl, c.requires.class, none_passed c.args.world.now.world.cells c.args.code.now c.args.side c.args.asked.sel.0 c.args.asked.kind 4096)
+    (refl, c.requires.class, c.stop_at_declaring.ensures.passed c.args.world.now.world.cells c.args.asked.kind)
 
 pub returns-in-Some : goal.returns-in-Some
 returns-in-Some c =

@@ -1,0 +1,5 @@
+use Rattle.ns_code.proofs.Listing.{found_under}
+use Rattle.ns_code.proofs.listed.under.Goals as goal
+
+pub returns : goal.returns
+returns c = found_under c.args.name c.args.entries.now c.first_from.result c.first_past.result c.first_from.ensures c.first_past.ensures

@@ -1,0 +1,60 @@
+//! Which declarations a lookup passes by, as they have no member of its name.
+
+ghost use Rattle.std.specs.Prelude.{◌≡◌, IsTrue, length, slice_set, false};
+ghost use Rattle.ns_code.specs.Fits.{Fits};
+ghost use Rattle.ns_code.specs.Soundness.{has_sound_classes};
+ghost use Rattle.ns_world.specs.Heap.{Heap};
+ghost use Rattle.ns_find.specs.Passed.{PassedHaveNone, without};
+ghost use Rattle.ns_find.specs.declared.found.Sending.{Sending};
+ghost use Rattle.ns_find.specs.declared.members.Side.TheVariants.{Instance};
+
+use crate::members::Side;
+use ns_base::selector::Sel;
+use ns_code::listed::Listed;
+use ns_code::program::CodeProgram;
+
+/// No longer passes by those that may have a member of that name.
+#[inline(never)]
+pub fn stop_at_declaring(code: &CodeProgram, passed: &mut [bool], side: Side, sel: Sel)
+    requires fits { Fits code.now }
+    requires sound { IsTrue (has_sound_classes code.now) }
+    ensures room { length passed.new ≡ length passed.old }
+    ensures passed { (heap : Heap) (kind : Sending) → PassedHaveNone heap code.now side sel.0 kind passed.new }
+{
+    match side {
+        Side::Instance => stop_on_instances(code, passed, sel),
+        Side::Class => stop_at(passed, code.classes.with_side_method(sel)),
+    }
+}
+
+/// The same on the instance side, where the selector may be a slot's name with a colon.
+fn stop_on_instances(code: &CodeProgram, passed: &mut [bool], sel: Sel)
+    requires fits { Fits code.now }
+    requires sound { IsTrue (has_sound_classes code.now) }
+    ensures room { length passed.new ≡ length passed.old }
+    ensures passed { (heap : Heap) (kind : Sending) → PassedHaveNone heap code.now Instance sel.0 kind passed.new }
+{
+    stop_at(passed, code.classes.with_member(sel));
+    match code.names.front(sel) {
+        Some(name) => stop_at(passed, code.classes.with_setter(Sel(name))),
+        None => {}
+    }
+}
+
+/// No longer passes by those listed.
+fn stop_at(passed: &mut [bool], listed: &[Listed])
+    ensures { passed.new ≡ without passed.old listed.now }
+{
+    'listed: for one in listed {
+        stop(passed, one.declaration as usize);
+    }
+}
+
+/// No longer passes by that one.
+fn stop(passed: &mut [bool], declaration: usize)
+    ensures { passed.new ≡ slice_set passed.old declaration false }
+{
+    if declaration < passed.len() {
+        passed[declaration] = false;
+    }
+}
