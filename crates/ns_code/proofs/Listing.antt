@@ -1,9 +1,9 @@
 -- What is listed under a name is found under it.
-use Rattle.std.proofs.Common.{◌≡◌, ◌≢◌, ◌⊎◌, inl, inr, ℕ, zero, suc, ◌+◌, ◌<◌, ◌≤◌, List, [], ◌∷◌, ◌++◌, length, take, drop, get_or, refl, ap, sym, ◌∙◌, arith, Bool, true, false, ◌||◌, ◌&&◌, Some, slice_get, nat_eq, map, All}
+use Rattle.std.proofs.Common.{◌≡◌, ◌≢◌, ℕ, zero, suc, ◌+◌, ◌<◌, ◌≤◌, List, [], ◌∷◌, length, take, drop, get_or, refl, ap, sym, ◌∙◌, arith, Bool, true, false, ◌||◌, ◌&&◌, Some, slice_get, nat_eq}
 use Rattle.std.specs.Prelude.{nat_lt, nat_le}
 use Rattle.std.specs.List.{list_any}
 use Rattle.std.specs.List.Sorted.{IsPermutation, IsPartitionPoint}
-use Rattle.std.proofs.lemmas.Bool.{cases_lt, ltb-true, ltb-false, eqb-true, eq-eqb}
+use Rattle.std.proofs.lemmas.Bool.{ltb-true, leb-false, eqb-true, eq-eqb}
 use Rattle.std.proofs.lemmas.List.{take-append-drop, get_or-take, get_or-drop, length-take, length-drop}
 use Rattle.std.proofs.lemmas.List.Folds.{list_any-append, list_any_none}
 use Rattle.std.proofs.lemmas.List.Sorted.{list_any-IsPermutation}
@@ -55,6 +55,9 @@ is_declaration name declaration one = by (nat_eq name one.name)
     by true e = e
     by false e = absurd (cc)
 
+not_above : (name : ℕ) (one : Listed) → name ≡ one.name → nat_le one.name name ≡ false → ⊥
+not_above name one same no = omega (arith, same, leb-false one.name name no)
+
 -- those before a place fail a test, so what passes it stands behind
 behind : (p : Listed → Bool) (listed : List Listed) (n : ℕ) → ((k : ℕ) (d : Listed) → k < n → k < length listed → p (get_or listed k d) ≡ false) →
     list_any p listed ≡ list_any p (drop n listed)
@@ -79,18 +82,22 @@ before p listed n fail =
     ap p (get_or-drop n listed k d) ∙ fail (n + k) d (omega arith) (omega (arith, lt, length-drop n listed))))
     ∙ or_false (list_any p (take n listed))))
 
-pub found_under : (name : ℕ) (listed : List Listed) (first past : ℕ) →
+pub found_under : (name : ℕ) (listed behind_first under : List Listed) (first past : ℕ) →
     IsPartitionPoint (λ (one : Listed). nat_lt one.name name ≡ true) (λ (one : Listed). nat_lt one.name name ≡ false) listed first →
-    IsPartitionPoint (λ (one : Listed). nat_le one.name name ≡ true) (λ (one : Listed). nat_le one.name name ≡ false) (drop first listed) past →
-    (declaration : ℕ) → is_listed name declaration listed ≡ true → is_declared declaration (take past (drop first listed)) ≡ true
-found_under name listed first past low high declaration e =
-    weaker (is_entry name declaration) (λ one. nat_eq declaration one.declaration) (is_declaration name declaration) (take past (drop first listed))
-    (sym (before (is_entry name declaration) (drop first listed) past
-    (λ k d le lt. other_name name declaration (get_or (drop first listed) k d) (λ same. let no = high.1 k d le lt in absurd (cc))))
+    behind_first ≡ drop first listed →
+    IsPartitionPoint (λ (one : Listed). nat_le one.name name ≡ true) (λ (one : Listed). nat_le one.name name ≡ false) behind_first past →
+    under ≡ take past behind_first →
+    (declaration : ℕ) → is_listed name declaration listed ≡ true → is_declared declaration under ≡ true
+found_under name listed behind_first under first past low cut high cut_again declaration e =
+    ap (is_declared declaration) cut_again
+    ∙ weaker (is_entry name declaration) (λ one. nat_eq declaration one.declaration) (is_declaration name declaration) (take past behind_first)
+    (sym (before (is_entry name declaration) behind_first past
+    (λ k d le lt. other_name name declaration (get_or behind_first k d) (λ same. let no = high.1 k d le lt in not_above name (get_or behind_first k d) same no)))
+    ∙ (ap (list_any (is_entry name declaration)) cut
     ∙ (sym (behind (is_entry name declaration) listed first
     (λ k d lt within. other_name name declaration (get_or listed k d)
     (λ same. omega (arith, same, ltb-true (get_or listed k d).name name (low.0 k d (omega arith) lt)))))
-    ∙ e))
+    ∙ e)))
 
 -- ---- what is listed
 

@@ -16,10 +16,14 @@ abbrev pub slot_names : List SlotCode → List ℕ
 slot_names [] = []
 slot_names (slot ∷ slots) = if is_visible slot.access then slot.name.0 ∷ slot_names slots else slot_names slots
 
--- the name of a slot that is mutable: with a colon behind it, it is the selector of the slot's setter
+-- whether a slot has a setter that isn't private
+abbrev pub has_setter : SlotCode → Bool
+has_setter slot = is_visible slot.access && slot.mutable
+
+-- the name of a slot that has a setter: with a colon behind it, it is the selector of that
 abbrev pub mutable_names : List SlotCode → List ℕ
 mutable_names [] = []
-mutable_names (slot ∷ slots) = if is_visible slot.access && slot.mutable then slot.name.0 ∷ mutable_names slots else mutable_names slots
+mutable_names (slot ∷ slots) = if has_setter slot then slot.name.0 ∷ mutable_names slots else mutable_names slots
 
 -- the name of a class, if it is there
 abbrev pub name_of : Option ClassCode → List ℕ

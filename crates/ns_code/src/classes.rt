@@ -111,6 +111,7 @@ impl TryClone for Classes {
 }
 
 /// The declarations under names of theirs, in the order of these.
+#[tactic(auto, using(crate::proofs::Listing::lists_all))]
 fn index_of<N: Naming>(alloc: Global, classes: &[ClassCode], naming: &N) -> Result<Index, NoMemory>
     requires { length classes.now < 2 ^ 32 }
     ensures { IfOk result (λ index. ListsAll (N.names naming.now) classes.now index) }

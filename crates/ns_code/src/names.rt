@@ -3,7 +3,7 @@
 ghost use Rattle.std.specs.Prelude.{◌≡◌, ◌++◌, ◌∷◌, [], length, map, IfOk, OnOk};
 ghost use Rattle.ns_code.specs.Own.{own_texts};
 ghost use Rattle.ns_code.specs.Selector.{selector_text};
-ghost use Rattle.ns_code.specs.Fronts.{front_in};
+ghost use Rattle.ns_code.specs.Fronts.{front_in, kept_at};
 ghost use Rattle.ns_code.specs.declared.program.CodeProgram.{CodeProgram};
 
 use crate::copies::TryClone;
@@ -72,13 +72,11 @@ impl Names {
 
     /// The number of the name before the colon at the end of a selector: of a name, or of one of the machine's own, whose numbers
     /// follow the names.
+    #[tactic(auto, using(crate::proofs::Fronting::front_kept))]
     pub fn front(&self, sel: Sel) -> Option<u32>
         ensures { (code : CodeProgram) → self.now ≡ code.names → result ≡ front_in code.names (selector_text code sel.0) }
     {
-        match self.fronts.as_slice().get(sel.0 as usize) {
-            Some(front) => *front,
-            None => None,
-        }
+        kept_at(self.fronts.as_slice(), sel.0)
     }
 }
 
@@ -90,6 +88,16 @@ impl TryClone for Names {
             all,
             fronts: Items::from_vec(fronts),
         })
+    }
+}
+
+/// What is kept under a number, if anything.
+fn kept_at(fronts: &[Option<u32>], number: u32) -> Option<u32>
+    ensures { result ≡ kept_at fronts.now number }
+{
+    match fronts.get(number as usize) {
+        Some(front) => *front,
+        None => None,
     }
 }
 
@@ -118,6 +126,7 @@ fn put(alloc: Global, table: &mut TextSet, name: &[u8]) -> Result<(), NoMemory>
 }
 
 /// For each name, and each of the machine's own selectors behind them, the number of the name before the colon at its end.
+#[tactic(auto, using(crate::proofs::Fronting::fronts_both))]
 fn fronts_of(alloc: Global, table: &TextSet, names: &[Text]) -> Result<Items<Option<u32>>, NoMemory>
     ensures { IfOk result (λ fronts. fronts ≡ map (front_in table.now) (names.now ++ own_texts)) }
 {
@@ -125,10 +134,18 @@ fn fronts_of(alloc: Global, table: &TextSet, names: &[Text]) -> Result<Items<Opt
     'names: for name in names {
         fronts.push(front_in(table, name.bytes()))?;
     }
+    put_own(&mut fronts, table)?;
+    Ok(Items::from_vec(fronts))
+}
+
+/// The same for the machine's own selectors.
+fn put_own(fronts: &mut Vec<Option<u32>>, table: &TextSet) -> Result<(), NoMemory>
+    ensures { OnOk result (fronts.new.items ≡ fronts.old.items ++ map (front_in table.now) own_texts) }
+{
     fronts.push(front_in(table, Own::PackageUsing.text()))?;
     fronts.push(front_in(table, Own::MainArgs.text()))?;
     fronts.push(front_in(table, Own::DoesNotUnderstand.text()))?;
-    Ok(Items::from_vec(fronts))
+    Ok(())
 }
 
 /// The number of the name before the colon at the end of a text.

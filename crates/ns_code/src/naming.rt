@@ -3,7 +3,7 @@
 ghost use Rattle.std.specs.Prelude.{◌≡◌, ◌++◌, ◌∷◌, [], ℕ, List, slice_get, OnOk};
 ghost use Rattle.ns_code.specs.declared.class.ClassCode.{ClassCode};
 ghost use Rattle.ns_code.specs.Listed.{under_names};
-ghost use Rattle.ns_code.specs.MemberNames.{instance_names, side_names, setter_names, slot_names, mutable_names, nested_names, method_names, name_of};
+ghost use Rattle.ns_code.specs.MemberNames.{has_setter, instance_names, side_names, setter_names, slot_names, mutable_names, nested_names, method_names, name_of};
 
 use crate::class::{ClassCode, MethodCode, NestedCode, SlotCode};
 use crate::kinds::PRIVATE;
@@ -97,11 +97,18 @@ fn put_setters(
     ensures { OnOk result (listed.new.items ≡ listed.old.items ++ under_names declaration (mutable_names slots.now)) }
 {
     'slots: for slot in slots {
-        if slot.access != PRIVATE && slot.mutable {
+        if has_setter(slot) {
             put(listed, declaration, slot.name)?;
         }
     }
     Ok(())
+}
+
+/// Whether a slot has a setter that isn't private.
+fn has_setter(slot: &SlotCode) -> bool
+    ensures { result ≡ has_setter slot.now }
+{
+    slot.access != PRIVATE && slot.mutable
 }
 
 fn put_nested(

@@ -1,9 +1,9 @@
 -- A declaration that has no member of a name has none among the members that a lookup goes through.
-use Rattle.std.proofs.Common.{◌≡◌, ◌≢◌, ◌⊎◌, inl, inr, ◌≤◌, ◌-◌, ℕ, ◌+◌, ◌<◌, List, [], ◌∷◌, ◌++◌, length, get_or, set, refl, ap, sym, ◌∙◌, arith, Option, Some, None, Bool, true, false, eqb, ◌==◌, ◌||◌, ◌&&◌, not, slice_get, length-set, if◌then◌else◌, IsTrue}
+use Rattle.std.proofs.Common.{◌≡◌, ◌⊎◌, inl, inr, ◌≤◌, ◌-◌, ℕ, ◌+◌, ◌<◌, List, [], ◌∷◌, ◌++◌, length, get_or, set, refl, ap, sym, ◌∙◌, Option, Some, None, Bool, true, false, eqb, ◌||◌, ◌&&◌, not, slice_get, length-set, if◌then◌else◌}
 use Rattle.ns_base.specs.declared.selector.Sel.{Sel}
 use Rattle.ns_base.specs.Spelling.{is_identifier}
 use Rattle.std.specs.Option.{option_map_or}
-use Rattle.std.specs.List.{list_any, AllPairs}
+use Rattle.std.specs.List.{list_any}
 use Rattle.std.specs.Str.{bytes_eq}
 use Rattle.std.proofs.lemmas.Bool.{cases_lt, eqb-true, eq-eqb, lt-ltb}
 use Rattle.std.proofs.lemmas.List.{get_or-set_same, get_or-set_other, set_past, get_or_past}
@@ -26,9 +26,8 @@ use Rattle.ns_world.specs.Heap.{Heap}
 use Rattle.ns_world.specs.Layout.{declaration_of}
 use Rattle.ns_find.specs.declared.found.Sending.{Sending}
 use Rattle.ns_find.specs.declared.members.Wanted.TheVariants.{Visible}
-use Rattle.ns_find.specs.declared.members.Side.{Side}
 use Rattle.ns_find.specs.declared.members.Side.TheVariants.{Instance, Class}
-use Rattle.ns_find.specs.Members.{Member, SetterOf, NamedAs, is_named, search, slots_members, nested_members, method_members, side_members, holder_members}
+use Rattle.ns_find.specs.Members.{Member, SetterOf, NamedAs, is_named, search, slots_members, nested_members, method_members, side_members}
 use Rattle.ns_find.specs.Passed.{PassedHaveNone, without}
 use Rattle.ns_find.specs.laws.SoundBodies.{slots_named}
 use Rattle.ns_find.proofs.Fronts.{front_told}

@@ -1,5 +1,5 @@
 -- The name before the colon of a slot's setter is that slot's, and no other.
-use Rattle.std.proofs.Common.{◌≡◌, ◌≢◌, ℕ, zero, suc, ◌+◌, ◌-◌, ◌<◌, List, [], ◌∷◌, ◌++◌, length, take, get_or, refl, ap, sym, ◌∙◌, arith, Option, Some, None, Bool, true, false, cond, not, nat_eq, length-append, take_at}
+use Rattle.std.proofs.Common.{◌≡◌, ◌≢◌, ℕ, zero, suc, ◌+◌, ◌-◌, ◌<◌, List, [], ◌∷◌, ◌++◌, length, take, get_or, refl, ap, sym, ◌∙◌, arith, Some, None, Bool, true, false, cond, not, length-append, take_at}
 use Rattle.std.specs.Prelude.{position}
 use Rattle.std.specs.List.{position_or_len, AllPairs}
 use Rattle.std.specs.Str.{bytes_eq}

@@ -1,4 +1,4 @@
-use Rattle.std.proofs.Common.{rules, sym}
+use Rattle.std.proofs.Common.{rules}
 use Rattle.std.proofs.lemmas.List.Sorted.{IsNonDecreasingBy-from_sort_by_key}
 use Rattle.ns_code.specs.declared.listed.Listed.{Listed}
 use Rattle.ns_code.proofs.listed.Index.of.Goals as goal
