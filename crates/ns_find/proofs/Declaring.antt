@@ -1,5 +1,5 @@
 -- A declaration that has no member of a name has none among the members that a lookup goes through.
-use Rattle.std.proofs.Common.{◌≡◌, ◌⊎◌, inl, inr, ◌≤◌, ◌-◌, ℕ, ◌+◌, ◌<◌, List, [], ◌∷◌, ◌++◌, length, get_or, set, refl, ap, sym, ◌∙◌, Option, Some, None, Bool, true, false, eqb, ◌||◌, ◌&&◌, not, slice_get, length-set, if◌then◌else◌}
+use Rattle.std.proofs.Common.{◌≡◌, ◌⊎◌, inl, inr, ◌≤◌, ◌-◌, ℕ, ◌+◌, ◌<◌, List, [], ◌∷◌, ◌++◌, length, get_or, set, refl, ap, sym, ◌∙◌, Option, Some, None, Bool, true, false, eqb, ◌||◌, ◌&&◌, not, slice_get, if◌then◌else◌}
 use Rattle.ns_base.specs.declared.selector.Sel.{Sel}
 use Rattle.ns_base.specs.Spelling.{is_identifier}
 use Rattle.std.specs.Option.{option_map_or}
@@ -188,10 +188,11 @@ not_told names classes name listed declaration class told there none = by (listi
 -- ---- the declarations that are passed
 
 module _ (heap : Heap) (code : CodeProgram) (sel : ℕ) (kind : Sending) where
-  pub passed_on_side : (passed : List Bool) (listed : List Listed) → TellsOf side_names code.classes sel listed
-      → PassedHaveNone heap code Class sel kind (without passed listed)
-  passed_on_side passed listed told = λ holder lt is.
-      by holder (slice_get code.classes (declaration_of heap holder)) refl (still_passed listed passed (declaration_of heap holder) is).0
+  pub passed_on_side : (passed once : List Bool) (listed : List Listed) → TellsOf side_names code.classes sel listed → once ≡ without passed listed
+      → PassedHaveNone heap code Class sel kind once
+  passed_on_side passed once listed told now = λ holder lt is.
+      by holder (slice_get code.classes (declaration_of heap holder)) refl
+      (still_passed listed passed (declaration_of heap holder) (ap (λ z. get_or z (declaration_of heap holder) false) (sym now) ∙ is)).0
     where
       by : (holder : ℕ) (o : Option ClassCode) → slice_get code.classes (declaration_of heap holder) ≡ o → is_declared (declaration_of heap holder) listed ≡ false
           → search code sel kind (option_map_or (side_members heap code Visible Class holder) o []) ≡ None
@@ -218,30 +219,31 @@ module _ (heap : Heap) (code : CodeProgram) (sel : ℕ) (kind : Sending) where
           (no_instance code sel heap holder class fits (slots_named code (declaration_of heap holder) class sound there) has.0 has.1)
 
   -- where no name stands before a colon of the selector
-  pub passed_without : (passed : List Bool) (members : List Listed) → Fits code → has_sound_classes code ≡ true → TellsOf (instance_names code.classes) code.classes sel members
-      → None ≡ front_in code.names (selector_text code sel) → PassedHaveNone heap code Instance sel kind (without passed members)
-  passed_without passed members fits sound told front =
-      passed_on_instances (without passed members) fits sound
-      (λ declaration class there is. (
-        not_told (instance_names code.classes) code.classes sel members declaration class told there (still_passed members passed declaration is).0,
-        λ name at. absurd (let no = front ∙ at in cc),
-      ))
+  pub passed_without : (passed once : List Bool) (members : List Listed) → Fits code → has_sound_classes code ≡ true
+      → TellsOf (instance_names code.classes) code.classes sel members → once ≡ without passed members
+      → None ≡ front_in code.names (selector_text code sel) → PassedHaveNone heap code Instance sel kind once
+  passed_without passed once members fits sound told now front =
+      passed_on_instances once fits sound
+      (λ declaration class there is.
+      let here = still_passed members passed declaration (ap (λ z. get_or z declaration false) (sym now) ∙ is) in
+      (not_told (instance_names code.classes) code.classes sel members declaration class told there here.0, λ name at. absurd (let no = front ∙ at in cc)))
 
   -- where that name stands there
-  pub passed_with : (passed : List Bool) (members setters : List Listed) (name : ℕ) → Fits code → has_sound_classes code ≡ true
+  pub passed_with : (passed once twice : List Bool) (members setters : List Listed) (name : ℕ) → Fits code → has_sound_classes code ≡ true
       → TellsOf (instance_names code.classes) code.classes sel members → TellsOf setter_names code.classes name setters
-      → Some name ≡ front_in code.names (selector_text code sel) → PassedHaveNone heap code Instance sel kind (without (without passed members) setters)
-  passed_with passed members setters name fits sound told told_setters front =
-      passed_on_instances (without (without passed members) setters) fits sound
+      → once ≡ without passed members → twice ≡ without once setters
+      → Some name ≡ front_in code.names (selector_text code sel) → PassedHaveNone heap code Instance sel kind twice
+  passed_with passed once twice members setters name fits sound told told_setters now last front =
+      passed_on_instances twice fits sound
       (λ declaration class there is.
-      let here = still_passed setters (without passed members) declaration is in (
-        not_told (instance_names code.classes) code.classes sel members declaration class told there (still_passed members passed declaration here.1).0,
+      let here = still_passed setters once declaration (ap (λ z. get_or z declaration false) (sym last) ∙ is) in
+      let before = still_passed members passed declaration (ap (λ z. get_or z declaration false) (sym now) ∙ here.1) in (
+        not_told (instance_names code.classes) code.classes sel members declaration class told there before.0,
         λ other at.
             let same : name ≡ other = let e = front ∙ at in cc in
             ap (λ n. listing.is_among n (mutable_names class.slots)) (sym same) ∙ not_told setter_names code.classes name setters declaration class told_setters there here.0,
       ))
 
--- as many flags as before
-pub same_length : (listed : List Listed) (passed : List Bool) → length (without passed listed) ≡ length passed
-same_length [] passed = refl
-same_length (one ∷ listed) passed = same_length listed (set passed one.declaration false) ∙ length-set passed one.declaration false
+-- past the last flag nothing changes
+pub kept_past : (passed : List Bool) (place : ℕ) → length passed ≤ place → passed ≡ set passed place false
+kept_past passed place le = sym (set_past passed place false le)

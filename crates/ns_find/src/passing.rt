@@ -43,7 +43,8 @@ fn stop_on_instances(code: &CodeProgram, passed: &mut [bool], sel: Sel)
 
 /// No longer passes by those listed.
 fn stop_at(passed: &mut [bool], listed: &[Listed])
-    ensures { passed.new ≡ without passed.old listed.now }
+    ensures flags { passed.new ≡ without passed.old listed.now }
+    ensures room { length passed.new ≡ length passed.old }
 {
     'listed: for one in listed {
         stop(passed, one.declaration as usize);
@@ -51,8 +52,10 @@ fn stop_at(passed: &mut [bool], listed: &[Listed])
 }
 
 /// No longer passes by that one.
+#[tactic(auto, using(crate::proofs::Declaring::kept_past))]
 fn stop(passed: &mut [bool], declaration: usize)
-    ensures { passed.new ≡ slice_set passed.old declaration false }
+    ensures flags { passed.new ≡ slice_set passed.old declaration false }
+    ensures room { length passed.new ≡ length passed.old }
 {
     if declaration < passed.len() {
         passed[declaration] = false;

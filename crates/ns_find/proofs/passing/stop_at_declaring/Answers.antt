@@ -1,0 +1,7 @@
+use Rattle.ns_find.proofs.Declaring.{passed_on_side}
+use Rattle.ns_find.proofs.passing.stop_at_declaring.Goals as goal
+
+pub returns-in-Class-clause-passed : goal.returns-in-Class-clause-passed
+returns-in-Class-clause-passed c heap kind =
+    passed_on_side heap c.args.code.now c.args.sel.0 kind c.args.passed.now c.stop_at.new.passed c.with_side_method.result.now
+    c.with_side_method.ensures c.stop_at.ensures.flags
