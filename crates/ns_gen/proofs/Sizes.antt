@@ -6,7 +6,7 @@ use Rattle.ns_code.specs.declared.body.BodyCode.{BodyCode}
 use Rattle.ns_gen_code.specs.declared.size.SizeKind.{SizeKind}
 use Rattle.ns_gen_code.specs.declared.size.SizeKind.TheVariants as s
 use Rattle.ns_gen_code.specs.Sizes.{is_too_long, is_too_high}
-use Rattle.ns_gen_bodies.specs.Coding.{Coded, graver, with_finished}
+use Rattle.ns_gen_bodies.specs.Coding.{Coded, graver, with_finished, with_kept}
 use Rattle.ns_gen_bodies.specs.Finishing.{finished}
 use Rattle.ns_gen_bodies.specs.declared.finish.Finished.{Finished}
 use Rattle.ns_gen_bodies.specs.declared.finish.Finished.TheVariants.{Fits, TooLarge}
@@ -25,10 +25,21 @@ one_fault : (result : Finished) (before : Coded) → (with_finished result befor
 one_fault (Fits code) before = refl
 one_fault (TooLarge kind) before = refl
 
-fault_is : (codes : List BodyCode) (before : Coded) → (put_codes codes before).fault ≡ fault_behind before.fault codes
-fault_is [] before = refl
-fault_is (code ∷ codes) before =
-    fault_is codes (with_finished (finished code) before) ∙ ap (λ f. fault_behind f codes) (one_fault (finished code) before)
+one_keeps : (result : Finished) (before : Coded) → (with_finished result before).keeps ≡ before.keeps
+one_keeps (Fits code) before = refl
+one_keeps (TooLarge kind) before = refl
+
+-- where bodies are kept, they are put as they were finished
+kept_put : (code : BodyCode) (codes : List BodyCode) (before : Coded) → before.keeps ≡ true →
+    put_codes (code ∷ codes) before ≡ put_codes codes (with_finished (finished code) before)
+kept_put code codes before keeps = ap (λ k. put_codes codes (with_kept k (finished code) before)) keeps
+
+fault_is : (codes : List BodyCode) (before : Coded) → before.keeps ≡ true → (put_codes codes before).fault ≡ fault_behind before.fault codes
+fault_is [] before keeps = refl
+fault_is (code ∷ codes) before keeps =
+    ap (λ (c : Coded). c.fault) (kept_put code codes before keeps)
+    ∙ fault_is codes (with_finished (finished code) before) (one_keeps (finished code) before ∙ keeps)
+    ∙ ap (λ f. fault_behind f codes) (one_fault (finished code) before)
 
 abbrev pub sized : Bool → Bool → BodyCode → Finished
 sized long high code = if long then TooLarge s.Code else if high then TooLarge s.Height else Fits code
@@ -67,24 +78,26 @@ sizes_are (code ∷ codes) =
     tested false true any_long any_high one two three = two
     tested false false any_long any_high one two three = three
 
-pub fault_found : (codes : List BodyCode) (before : Coded) → before.fault ≡ None → (put_codes codes before).fault ≡ bodies_fault codes
-fault_found codes before h = fault_is codes before ∙ ap (λ f. fault_behind f codes) h ∙ sizes_are codes
+pub fault_found : (codes : List BodyCode) (before : Coded) → before.keeps ≡ true → before.fault ≡ None →
+    (put_codes codes before).fault ≡ bodies_fault codes
+fault_found codes before keeps h = fault_is codes before keeps ∙ ap (λ f. fault_behind f codes) h ∙ sizes_are codes
 
 -- ---- the bodies that fit
 
 -- nothing is too large where nothing of the first is, and nothing of the others
-pub all_kept : (codes : List BodyCode) (before : Coded) → bodies_fault codes ≡ None →
+pub all_kept : (codes : List BodyCode) (before : Coded) → before.keeps ≡ true → bodies_fault codes ≡ None →
     (put_codes codes before).bodies ≡ before.bodies ++ codes
-all_kept [] before h = sym (append-nil before.bodies)
-all_kept (code ∷ codes) before h =
-    tested (is_too_long code) (is_too_high code) (list_any is_too_long codes) (list_any is_too_high codes) h (all_kept codes)
+all_kept [] before keeps h = sym (append-nil before.bodies)
+all_kept (code ∷ codes) before keeps h =
+    ap (λ (c : Coded). c.bodies) (kept_put code codes before keeps)
+    ∙ tested (is_too_long code) (is_too_high code) (list_any is_too_long codes) (list_any is_too_high codes) h (all_kept codes)
   where
     tested : (long high any_long any_high : Bool) →
         (if long || any_long then Some s.Code else if high || any_high then Some s.Height else None) ≡ None →
-        ((after : Coded) → (if any_long then Some s.Code else if any_high then Some s.Height else None) ≡ None → (put_codes codes after).bodies ≡ after.bodies ++ codes) →
+        ((after : Coded) → after.keeps ≡ true → (if any_long then Some s.Code else if any_high then Some s.Height else None) ≡ None → (put_codes codes after).bodies ≡ after.bodies ++ codes) →
         (put_codes codes (with_finished (sized long high code) before)).bodies ≡ before.bodies ++ code ∷ codes
     tested true high any_long any_high e rest = absurd (let f : Some s.Code ≡ None = e in cc)
     tested false high true any_high e rest = absurd (let f : Some s.Code ≡ None = e in cc)
     tested false true false any_high e rest = absurd (let f : Some s.Height ≡ None = e in cc)
     tested false false false any_high e rest =
-        rest (with_finished (Fits code) before) e ∙ append_assoc before.bodies (code ∷ []) codes
+        rest (with_finished (Fits code) before) keeps e ∙ append_assoc before.bodies (code ∷ []) codes

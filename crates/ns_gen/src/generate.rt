@@ -1,10 +1,10 @@
 //! The generator: a whole program to its code.
 
-ghost use Rattle.std.specs.Prelude.{◌≡◌, length, Some, None, IfOk, OnOk, IsErrOf};
+ghost use Rattle.std.specs.Prelude.{◌≡◌, length, nat_lt, Some, None, IfOk, OnOk, IsErrOf};
 ghost use Rattle.ns_gen_code.specs.declared.size.SizeKind.{SizeKind};
 ghost use Rattle.ns_resolved.specs.Classes.{meant};
 ghost use Rattle.ns_gen_code.specs.Code.{code_of};
-ghost use Rattle.ns_gen_code.specs.Sizes.{size_fault};
+ghost use Rattle.ns_gen_code.specs.Sizes.{most, size_fault};
 ghost use Rattle.ns_gen.specs.Whole.{named, coded_program, first_fault};
 ghost use Rattle.ns_gen.specs.declared.fault.GenFault.TheVariants.{TooLarge};
 
@@ -37,9 +37,9 @@ pub fn generate(alloc: Global, program: &Program) -> Result<CodeProgram, GenFaul
     ensures fits { OnOk result (size_fault (code_of (meant program.now)) ≡ None) }
     ensures large { (kind : SizeKind) → IsErrOf result (TooLarge kind) → size_fault (code_of (meant program.now)) ≡ Some kind }
 {
-    let classes = declared(alloc, program.units.as_slice(), program.marks.as_slice())?;
-    let mut output = named(alloc, program.key, &classes)?;
-    let count = put_units(
+    let (classes, count) = declared(alloc, program.units.as_slice(), program.marks.as_slice())?;
+    let mut output = named(alloc, program.key, &classes, !are_too_many(count))?;
+    put_units(
         &mut output,
         program.units.as_slice(),
         program.marks.as_slice(),
@@ -53,13 +53,20 @@ pub fn generate(alloc: Global, program: &Program) -> Result<CodeProgram, GenFaul
     }
 }
 
-/// The names of the classes, before all bodies.
-fn named(alloc: Global, key: Key, classes: &[Declaration]) -> Result<Output, NoMemory>
-    ensures { IfOk result (λ output. output ≡ named classes.now) }
+/// The names of the classes, before all bodies, which are kept or not.
+fn named(alloc: Global, key: Key, classes: &[Declaration], keeps: bool) -> Result<Output, NoMemory>
+    ensures { IfOk result (λ output. output ≡ named keeps classes.now) }
 {
     let mut writer = Writer::new(alloc, key);
     put_names(&mut writer, classes)?;
-    Ok(Output::after(writer))
+    Ok(Output::after(writer, keeps))
+}
+
+/// Whether so many bodies are more than a program has at most.
+fn are_too_many(count: u32) -> bool
+    ensures { result ≡ nat_lt most count }
+{
+    count as usize > MOST
 }
 
 /// The first size that passes its limit.
@@ -69,7 +76,7 @@ fn size_fault(output: &Output, count: u32) -> Option<SizeKind>
     if output.name_count() > MOST {
         return Some(SizeKind::Names);
     }
-    if count as usize > MOST {
+    if are_too_many(count) {
         return Some(SizeKind::Bodies);
     }
     output.fault()

@@ -1,6 +1,6 @@
 //! The bodies of a program's units.
 
-ghost use Rattle.std.specs.Prelude.{◌≡◌, ◌+◌, [], length, map, OnOk, IfOk};
+ghost use Rattle.std.specs.Prelude.{◌≡◌, ◌+◌, [], length, map, OnOk};
 ghost use Rattle.ns_tree.specs.PlainOf.{class_of, unit_of};
 ghost use Rattle.ns_scope.specs.Bodies as b;
 ghost use Rattle.ns_resolved.specs.Classes.{class_bodies, class_count, units_bodies, in_file};
@@ -16,14 +16,13 @@ use ns_gen_records::declared::places_of;
 use ns_scope::chain::Chain;
 use ns_tree::tree::Unit;
 
-/// The bodies of units, each with the places of its tokens. Tells how many they are.
+/// The bodies of units, each with the places of its tokens.
 pub fn put_units(
     output: &mut Output,
     units: &[Unit],
     marks: &[Items<Place>],
-) -> Result<u32, NoMemory>
-    ensures put { OnOk result (output.new ≡ with_bodies (units_bodies 0 0 (map unit_of units.now) marks.now) output.old) }
-    ensures count { IfOk result (λ count. count ≡ length (units_bodies 0 0 (map unit_of units.now) marks.now)) }
+) -> Result<(), NoMemory>
+    ensures { OnOk result (output.new ≡ with_bodies (units_bodies 0 0 (map unit_of units.now) marks.now) output.old) }
 {
     let mut number: u32 = 0;
     let mut next: u32 = 0;
@@ -33,7 +32,7 @@ pub fn put_units(
         put_unit(output, &mut number, &mut next, unit, places)?;
         at += 1;
     }
-    Ok(next)
+    Ok(())
 }
 
 /// The bodies of a file.

@@ -2,4 +2,5 @@ pub mod Highest
 pub mod Stepping
 pub mod Starting
 pub mod Finishing
+pub mod Keeping
 pub mod Routines

@@ -1,6 +1,6 @@
 //! What is generated: the tables, and the code of one body after the other.
 
-ghost use Rattle.std.specs.Prelude.{◌≡◌, ◌+◌, [], None, length, IfOk, OnOk, option_map};
+ghost use Rattle.std.specs.Prelude.{◌≡◌, ◌+◌, [], true, None, length, IfOk, OnOk, option_map};
 ghost use Rattle.ns_tree.specs.PlainOf.{bars_of, statements_of, block_of, clause_of, class_of, pattern_of};
 ghost use Rattle.ns_scope.specs.Scopes.{factory_params};
 ghost use Rattle.ns_resolved.specs.Program.{as_method};
@@ -28,11 +28,13 @@ use ns_tree::tree::{Block, Class, Method, Named, Pattern, SuperClause};
 use std::alloc::Global;
 use std::marker::Model;
 
-/// The tables of names and literal texts, the bodies that fit, and what of one is too large.
+/// The tables of names and literal texts, and whether bodies are kept: those that fit, and what of one is
+/// too large. A program with too many bodies gets no code, but its names are counted all the same.
 #[derive(Drop)]
 pub struct Output {
     alloc: Global,
     writer: Writer,
+    keeps: bool,
     bodies: Vec<BodyCode>,
     fault: Option<SizeKind>,
 }
@@ -42,18 +44,19 @@ impl Model for Output {
 
     ghost Value = { Coded };
 
-    ghost view = { λ output. record { names = output.writer.names; texts = output.writer.texts; bodies = output.bodies.items; fault = output.fault } };
+    ghost view = { λ output. record { names = output.writer.names; texts = output.writer.texts; keeps = output.keeps; bodies = output.bodies.items; fault = output.fault } };
 }
 
 impl Output {
     /// No body yet, behind what was written.
-    pub fn after(writer: Writer) -> Output
-        ensures { result ≡ record { names = writer.names; texts = writer.texts; bodies = []; fault = None } }
+    pub fn after(writer: Writer, keeps: bool) -> Output
+        ensures { result ≡ record { names = writer.names; texts = writer.texts; keeps = keeps; bodies = []; fault = None } }
     {
         let alloc = writer.alloc();
         Output {
             alloc,
             writer,
+            keeps,
             bodies: Vec::new(alloc),
             fault: None,
         }
@@ -92,7 +95,13 @@ impl Output {
             &method.slots,
             first < next,
         )?;
-        put_code(&self.writer, &mut self.bodies, &mut self.fault, head)?;
+        put_code(
+            &self.writer,
+            self.keeps,
+            &mut self.bodies,
+            &mut self.fault,
+            head,
+        )?;
         Ok(())
     }
 
@@ -122,7 +131,13 @@ impl Output {
             &block.slots,
             first < next,
         )?;
-        put_code(&self.writer, &mut self.bodies, &mut self.fault, head)?;
+        put_code(
+            &self.writer,
+            self.keeps,
+            &mut self.bodies,
+            &mut self.fault,
+            head,
+        )?;
         Ok(())
     }
 
@@ -152,7 +167,13 @@ impl Output {
             &None,
             first < next,
         )?;
-        put_code(&self.writer, &mut self.bodies, &mut self.fault, head)?;
+        put_code(
+            &self.writer,
+            self.keeps,
+            &mut self.bodies,
+            &mut self.fault,
+            head,
+        )?;
         Ok(())
     }
 
@@ -163,7 +184,13 @@ impl Output {
         self.writer.clear();
         put_clause(&mut self.writer, here, &clause.head, &clause.over)?;
         let head = head(self.alloc, here, CLAUSE, None, &[], &None, false)?;
-        put_code(&self.writer, &mut self.bodies, &mut self.fault, head)?;
+        put_code(
+            &self.writer,
+            self.keeps,
+            &mut self.bodies,
+            &mut self.fault,
+            head,
+        )?;
         Ok(())
     }
 
@@ -222,14 +249,35 @@ fn factory_params(factory: &Option<Pattern>) -> &[Named]
     }
 }
 
-/// The code of the body with this head, whose lines were written, or what of it is too large.
+/// The code of the body with this head, whose lines were written, or what of it is too large, where bodies
+/// are kept.
+#[tactic(auto, using(crate::proofs::Keeping::put_where_kept, crate::proofs::Keeping::same_where_not))]
 fn put_code(
+    writer: &Writer,
+    keeps: bool,
+    bodies: &mut Vec<BodyCode>,
+    fault: &mut Option<SizeKind>,
+    head: BodyCode,
+) -> Result<(), NoMemory>
+    ensures { OnOk result (coded_of writer.now keeps bodies.new.items fault.new ≡ with_lines_of head writer.now
+        (coded_of writer.now keeps bodies.old.items fault.old)) }
+{
+    if keeps {
+        put_kept(writer, bodies, fault, head)
+    } else {
+        Ok(())
+    }
+}
+
+/// The same, of bodies that are kept.
+fn put_kept(
     writer: &Writer,
     bodies: &mut Vec<BodyCode>,
     fault: &mut Option<SizeKind>,
     head: BodyCode,
 ) -> Result<(), NoMemory>
-    ensures { OnOk result (coded_of writer.now bodies.new.items fault.new ≡ with_lines_of head writer.now (coded_of writer.now bodies.old.items fault.old)) }
+    ensures { OnOk result (coded_of writer.now true bodies.new.items fault.new ≡ with_lines_of head writer.now
+        (coded_of writer.now true bodies.old.items fault.old)) }
 {
     match finish(writer, head)? {
         Finished::Fits(code) => bodies.push(code)?,

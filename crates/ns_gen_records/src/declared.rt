@@ -24,13 +24,14 @@ use ns_scope::scope::{ClassScope, CodeSide};
 use ns_tree::tree::{Access, Class, Member, Message, Pattern, Side, SuperClause, Unit, What};
 use std::alloc::Global;
 
-/// The classes of units, each with the places of its tokens.
+/// The classes of units, each with the places of its tokens, and how many bodies they have.
 pub fn declared(
     alloc: Global,
     units: &[Unit],
     marks: &[Items<Place>],
-) -> Result<Vec<Declaration>, NoMemory>
-    ensures { IfOk result (λ all. all.items ≡ c.units_declared 0 0 (map unit_of units.now) marks.now) }
+) -> Result<(Vec<Declaration>, u32), NoMemory>
+    ensures classes { IfOk result (λ all. all.0.items ≡ c.units_declared 0 0 (map unit_of units.now) marks.now) }
+    ensures bodies { IfOk result (λ all. all.1 ≡ length (c.units_bodies 0 0 (map unit_of units.now) marks.now)) }
 {
     let mut all = Vec::new(alloc);
     let mut number: u32 = 0;
@@ -41,7 +42,7 @@ pub fn declared(
         put_unit(alloc, &mut all, &mut number, &mut next, unit, places)?;
         at += 1;
     }
-    Ok(all)
+    Ok((all, next))
 }
 
 /// The places of a unit's tokens.

@@ -1,6 +1,6 @@
 use Rattle.std.proofs.Common.{◌≡◌, ◌∙◌, ap, sym, arith}
 use Rattle.std.specs.Prelude.{slice_get, Some}
-use Rattle.ns_gen.proofs.UnitByUnit.{unit_put, unit_number}
+use Rattle.ns_gen.proofs.UnitByUnit.{unit_put}
 use Rattle.ns_gen.proofs.units.put_units.Goals as goal
 
 pub loop-unit-preserved : goal.loop-unit-preserved
@@ -12,7 +12,4 @@ loop-unit-preserved c =
       unit_put l.number c.put_unit.new.number l.next c.put_unit.new.next l.unit-index c.args.units.now c.unit-item.result c.args.marks.now
           c.in_ok-places.places.now l.output c.put_unit.new.output _ c.loop-unit-test.true c.unit-item.is places l.invariant.1
           c.in_ok-put_unit.ensures.put c.in_ok-put_unit.ensures.number c.in_ok-put_unit.ensures.next,
-      unit_number l.number c.put_unit.new.number l.next c.put_unit.new.next l.unit-index _ c.args.units.now c.unit-item.result c.args.marks.now
-          c.in_ok-places.places.now c.loop-unit-test.true c.unit-item.is places l.invariant.2 c.in_ok-put_unit.ensures.number
-          c.in_ok-put_unit.ensures.next,
     )

@@ -1,4 +1,4 @@
-use Rattle.std.proofs.Common.{◌≡◌, ◌+◌, length, map, drop}
+use Rattle.std.proofs.Common.{◌≡◌, map, drop}
 use Rattle.ns_tree.specs.PlainOf.{unit_of}
 use Rattle.ns_resolved.specs.Classes as c
 use Rattle.ns_gen_bodies.specs.Coding.{with_bodies}
@@ -9,5 +9,3 @@ invariant-loop-unit l =
     (l.at ≡ l.unit-index)
     × (with_bodies (c.units_bodies l.number l.next (map unit_of (drop l.unit-index l.units)) (drop l.unit-index l.marks)) l.output
     ≡ with_bodies (c.units_bodies 0 0 (map unit_of l.units) l.marks) l.fn.output)
-    × (l.next + length (c.units_bodies l.number l.next (map unit_of (drop l.unit-index l.units)) (drop l.unit-index l.marks))
-    ≡ length (c.units_bodies 0 0 (map unit_of l.units) l.marks))
