@@ -1,8 +1,10 @@
 -- What of a body's code is too large, or that it fits.
-use Rattle.std.proofs.Common.{◌≡◌, ◌<◌, ◌≤◌, ◌∙◌, ℕ, length, ap, sym, refl, arith}
-use Rattle.std.specs.Prelude.{nat_lt, Bool, true, false, if◌then◌else◌}
+use Rattle.std.proofs.Common.{◌≡◌, ◌<◌, ◌≤◌, ◌∙◌, ℕ, List, length, ap, sym, refl, arith}
+use Rattle.std.specs.Prelude.{nat_lt, map, Bool, true, false, if◌then◌else◌}
+use Rattle.std.proofs.lemmas.List.{length-map}
 use Rattle.std.proofs.lemmas.Bool.{lt-ltb, ltb-true}
 use Rattle.ns_code.specs.declared.body.BodyCode.{BodyCode}
+use Rattle.ns_gen_code.specs.Code.{CodeLine, instr_of, greatest_height, with_code}
 use Rattle.ns_gen_code.specs.Sizes.{most, most_height, is_too_high}
 use Rattle.ns_gen_code.specs.declared.size.SizeKind.TheVariants.{Code, Height}
 use Rattle.ns_gen_bodies.specs.Finishing.{finished}
@@ -18,15 +20,25 @@ above a b h = tested (nat_lt a b) refl where
   tested true e = absurd (omega (ltb-true a b e, h, arith))
   tested false e = refl
 
-pub too_long : (code : BodyCode) → most < length code.instrs → TooLarge Code ≡ finished code
-too_long code h = ap (λ long. told code long (is_too_high code)) (sym (lt-ltb most (length code.instrs) h))
+as_many : (names : List (List ℕ)) (lines : List CodeLine) → length (map (instr_of names) lines) ≡ length lines
+as_many names lines = length-map lines (instr_of names)
 
-pub too_high : (code : BodyCode) → length code.instrs ≤ most → most_height < code.height → TooLarge Height ≡ finished code
-too_high code short h =
+pub too_long : (names : List (List ℕ)) (head : BodyCode) (lines : List CodeLine) → most < length lines →
+    TooLarge Code ≡ finished (with_code names head lines)
+too_long names head lines h =
+    let code = with_code names head lines in
+    ap (λ long. told code long (is_too_high code)) (sym (lt-ltb most (length code.instrs) (omega (as_many names lines, h, arith))))
+
+pub too_high : (names : List (List ℕ)) (head : BodyCode) (lines : List CodeLine) → length lines ≤ most →
+    most_height < greatest_height 0 (map (instr_of names) lines) → TooLarge Height ≡ finished (with_code names head lines)
+too_high names head lines short h =
+    let code = with_code names head lines in
     ap (λ high. told code false high) (sym (lt-ltb most_height code.height h))
-    ∙ ap (λ long. told code long (is_too_high code)) (sym (above most (length code.instrs) short))
+    ∙ ap (λ long. told code long (is_too_high code)) (sym (above most (length code.instrs) (omega (as_many names lines, short, arith))))
 
-pub fits : (code : BodyCode) → length code.instrs ≤ most → code.height ≤ most_height → Fits code ≡ finished code
-fits code short low =
+pub fits : (names : List (List ℕ)) (head : BodyCode) (lines : List CodeLine) → length lines ≤ most →
+    greatest_height 0 (map (instr_of names) lines) ≤ most_height → Fits (with_code names head lines) ≡ finished (with_code names head lines)
+fits names head lines short low =
+    let code = with_code names head lines in
     ap (λ high. told code false high) (sym (above most_height code.height low))
-    ∙ ap (λ long. told code long (is_too_high code)) (sym (above most (length code.instrs) short))
+    ∙ ap (λ long. told code long (is_too_high code)) (sym (above most (length code.instrs) (omega (as_many names lines, short, arith))))

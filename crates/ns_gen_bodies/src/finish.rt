@@ -32,10 +32,10 @@ pub enum Finished {
 pub fn finish(writer: &Writer, head: BodyCode) -> Result<Finished, NoMemory>
     ensures { IfOk result (λ done. done ≡ finished (with_code writer.now.names head writer.now.lines)) }
 {
-    let instrs = writer.instructions()?;
-    if instrs.len() > MOST {
+    if writer.line_count() > MOST {
         return Ok(Finished::TooLarge(SizeKind::Code));
     }
+    let instrs = writer.instructions()?;
     match greatest_height(&instrs) {
         None => Ok(Finished::TooLarge(SizeKind::Height)),
         Some(height) => {

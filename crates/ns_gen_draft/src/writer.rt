@@ -136,6 +136,13 @@ impl Writer {
         self.names.count()
     }
 
+    /// How many lines there are.
+    pub fn line_count(&self) -> usize
+        ensures { result ≡ length self.now.lines }
+    {
+        self.drafts.len()
+    }
+
     /// Begins the next body.
     pub fn clear(&mut self)
         ensures { self.new ≡ without_lines self.old }
