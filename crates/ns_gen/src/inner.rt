@@ -1,7 +1,8 @@
 //! The blocks in bodies: the code of each, and then of the blocks in it, in the order of the text.
 
-ghost use Rattle.std.specs.Prelude.{◌≡◌, ◌+◌, length, OnOk};
-ghost use Rattle.ns_tree.specs.PlainOf.{expr_of, cascade_of, message_of, key_expr_of, keys_of, bin_of, opers_of, un_of, primary_of};
+ghost use Rattle.std.specs.Prelude.{◌≡◌, ◌+◌, [], length, OnOk};
+ghost use Rattle.ns_tree.specs.Plain as p;
+ghost use Rattle.ns_tree.specs.PlainOf.{expr_of, full_expr_of, cascade_of, message_of, key_expr_of, keys_of, bin_of, opers_of, un_of, primary_of};
 ghost use Rattle.ns_tree.specs.PlainOf.{exprs_of, block_of, bars_of, slots_of, slot_of, statements_of, statement_list_of, statement_of};
 ghost use Rattle.ns_scope.specs.Bodies.{expr_blocks, cascade_blocks, message_blocks, key_expr_blocks, keys_blocks, bin_blocks, opers_blocks, un_blocks, primary_blocks};
 ghost use Rattle.ns_scope.specs.Bodies.{items_blocks, block_blocks, inside_blocks, bars_blocks, slots_blocks, slot_blocks, statements_blocks, list_blocks, statement_blocks};
@@ -17,8 +18,8 @@ use ns_gen_draft::around::advance;
 use ns_gen_draft::here::Here;
 use ns_scope::scope::Scope;
 use ns_tree::tree::{
-    BinExpr, Block, Expr, KeyExpr, Message, Named, Primary, Slot, SlotInit, Statement, Statements,
-    UnExpr,
+    BinExpr, Block, Expr, FullExpr, KeyExpr, Message, Named, Primary, Slot, SlotInit, Statement,
+    Statements, UnExpr,
 };
 
 #[cycle(inner)]
@@ -30,6 +31,22 @@ fn put_expr(
 ) -> Result<(), NoMemory>
     ensures put { OnOk result (output.new ≡ with_bodies (expr_bodies (standing here.now) next.old (expr_of expr.now)) output.old) }
     ensures next { OnOk result (next.new ≡ next.old + length (expr_blocks here.now.scope.now (expr_of expr.now))) }
+{
+    match expr {
+        Expr::Operand(operand) => put_un(output, here, next, operand),
+        Expr::Full(full) => put_full_expr(output, here, next, full),
+    }
+}
+
+#[cycle(inner)]
+fn put_full_expr(
+    output: &mut Output,
+    here: &Here<'_>,
+    next: &mut u32,
+    expr: &FullExpr,
+) -> Result<(), NoMemory>
+    ensures put { OnOk result (output.new ≡ with_bodies (expr_bodies (standing here.now) next.old (full_expr_of expr.now)) output.old) }
+    ensures next { OnOk result (next.new ≡ next.old + length (expr_blocks here.now.scope.now (full_expr_of expr.now))) }
 {
     put_key_expr(output, here, next, &expr.first)?;
     put_cascade(output, here, next, &expr.more)?;
@@ -163,6 +180,7 @@ fn put_primary(
     match primary {
         Primary::Paren(inner) => put_expr(output, here, next, inner),
         Primary::Block(block) => put_block(output, here, next, block),
+        Primary::BareBlock(body) => put_bare_block(output, here, next, body),
         Primary::Tuple { items, .. } => put_items(output, here, next, items),
         _ => Ok(()),
     }
@@ -202,9 +220,33 @@ fn put_block(
         class: here.class,
         marks: here.marks,
     };
-    output.block(&inner, here.body, block)?;
+    output.block(&inner, here.body, &block.params, &block.slots, &block.body)?;
     advance(next)?;
     put_inside(output, &inner, next, block)?;
+    Ok(())
+}
+
+/// The code of a block without parameters and locals, and then of those in it.
+#[cycle(inner)]
+fn put_bare_block(
+    output: &mut Output,
+    here: &Here<'_>,
+    next: &mut u32,
+    body: &Statements,
+) -> Result<(), NoMemory>
+    ensures put { OnOk result (output.new ≡ with_bodies (block_bodies (standing here.now) next.old (p.block_with [] p.no_bars (statements_of body.now))) output.old) }
+    ensures next { OnOk result (next.new ≡ next.old + length (block_blocks here.now.scope.now (p.block_with [] p.no_bars (statements_of body.now)))) }
+{
+    let scope = Scope::block(output.alloc(), here.scope, &[], &None)?;
+    let inner = Here {
+        scope: &scope,
+        body: *next,
+        class: here.class,
+        marks: here.marks,
+    };
+    output.block(&inner, here.body, &[], &None, body)?;
+    advance(next)?;
+    put_statements(output, &inner, next, body)?;
     Ok(())
 }
 

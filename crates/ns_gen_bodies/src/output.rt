@@ -1,7 +1,8 @@
 //! What is generated: the tables, and the code of one body after the other.
 
 ghost use Rattle.std.specs.Prelude.{◌≡◌, ◌+◌, [], true, None, length, IfOk, OnOk, option_map};
-ghost use Rattle.ns_tree.specs.PlainOf.{bars_of, statements_of, block_of, clause_of, class_of, pattern_of};
+ghost use Rattle.ns_tree.specs.Plain as p;
+ghost use Rattle.ns_tree.specs.PlainOf.{bars_of, statements_of, clause_of, class_of, pattern_of};
 ghost use Rattle.ns_scope.specs.Scopes.{factory_params};
 ghost use Rattle.ns_resolved.specs.Program.{as_method};
 ghost use Rattle.ns_resolved.specs.Statements.{routine};
@@ -24,7 +25,7 @@ use ns_gen_draft::here::Here;
 use ns_gen_draft::names::Names;
 use ns_gen_draft::never::cannot_come;
 use ns_gen_draft::writer::Writer;
-use ns_tree::tree::{Block, Class, Method, Named, Pattern, SuperClause};
+use ns_tree::tree::{Class, Method, Named, Pattern, Slot, Statements, SuperClause};
 use std::alloc::Global;
 use std::marker::Model;
 
@@ -105,30 +106,31 @@ impl Output {
         Ok(())
     }
 
-    /// The code of a block whose expressions stand so, in the body of that number.
-    pub fn block(&mut self, here: &Here<'_>, parent: u32, block: &Block) -> Result<(), NoMemory>
-        ensures { OnOk result (self.new ≡ with_one (block_in (standing here.now) parent (block_of block.now)) self.old) }
+    /// The code of a block with such parameters, locals and statements, whose expressions stand so, in the body of
+    /// that number.
+    pub fn block(
+        &mut self,
+        here: &Here<'_>,
+        parent: u32,
+        params: &[Named],
+        slots: &Option<Vec<Slot>>,
+        body: &Statements,
+    ) -> Result<(), NoMemory>
+        ensures { OnOk result (self.new ≡ with_one
+            (block_in (standing here.now) parent (p.block_with params.now (bars_of slots.now) (statements_of body.now))) self.old) }
     {
         let first = behind(here.body)?;
         let mut next = first;
-        let params = block.params.as_slice();
         let parameters = count(params)?;
         self.writer.clear();
-        put_block_body(
-            &mut self.writer,
-            here,
-            &mut next,
-            parameters,
-            &block.slots,
-            &block.body,
-        )?;
+        put_block_body(&mut self.writer, here, &mut next, parameters, slots, body)?;
         let head = head(
             self.alloc,
             here,
             BLOCK,
             Some(parent),
             params,
-            &block.slots,
+            slots,
             first < next,
         )?;
         put_code(

@@ -1,7 +1,8 @@
 //! How many blocks stand in parts of a tree.
 
-ghost use Rattle.std.specs.Prelude.{◌≡◌, ◌+◌, OnOk};
-ghost use Rattle.ns_tree.specs.PlainOf.{expr_of, cascade_of, message_of, key_expr_of, keys_of, bin_of, opers_of, un_of, primary_of};
+ghost use Rattle.std.specs.Prelude.{◌≡◌, ◌+◌, [], OnOk};
+ghost use Rattle.ns_tree.specs.Plain as p;
+ghost use Rattle.ns_tree.specs.PlainOf.{expr_of, full_expr_of, cascade_of, message_of, key_expr_of, keys_of, bin_of, opers_of, un_of, primary_of};
 ghost use Rattle.ns_tree.specs.PlainOf.{exprs_of, block_of, slots_of, slot_of, statements_of, statement_list_of};
 ghost use Rattle.ns_gen_draft.specs.Counting.{expr_count, cascade_count, message_count, key_expr_count, keys_count, bin_count, opers_count, un_count, primary_count};
 ghost use Rattle.ns_gen_draft.specs.Counting.{items_count, block_count, slots_count, slot_count, statements_count, list_count};
@@ -9,8 +10,8 @@ ghost use Rattle.ns_gen_draft.specs.Counting.{items_count, block_count, slots_co
 use crate::never::cannot_come;
 use ns_base::no_memory::NoMemory;
 use ns_tree::tree::{
-    BinExpr, Block, Expr, KeyExpr, Message, Named, Primary, Slot, SlotInit, Statement, Statements,
-    UnExpr,
+    BinExpr, Block, Expr, FullExpr, KeyExpr, Message, Named, Primary, Slot, SlotInit, Statement,
+    Statements, UnExpr,
 };
 
 /// The block, and those in it.
@@ -23,6 +24,18 @@ pub fn count_block(count: &mut u32, block: &Block) -> Result<(), NoMemory>
     };
     *count = more;
     count_inside(count, block)
+}
+
+/// A block without parameters and locals, and those in it.
+#[cycle(counting)]
+pub fn count_bare_block(count: &mut u32, body: &Statements) -> Result<(), NoMemory>
+    ensures { OnOk result (count.new ≡ count.old + block_count (p.block_with [] p.no_bars (statements_of body.now))) }
+{
+    let Some(more) = count.checked_add(1) else {
+        return Err(cannot_come());
+    };
+    *count = more;
+    count_statements(count, body)
 }
 
 /// The blocks in a block, of which the block itself was counted.
@@ -42,6 +55,16 @@ fn count_inside(count: &mut u32, block: &Block) -> Result<(), NoMemory>
 #[cycle(counting)]
 fn count_expr(count: &mut u32, expr: &Expr) -> Result<(), NoMemory>
     ensures { OnOk result (count.new ≡ count.old + expr_count (expr_of expr.now)) }
+{
+    match expr {
+        Expr::Operand(operand) => count_un(count, operand),
+        Expr::Full(full) => count_full_expr(count, full),
+    }
+}
+
+#[cycle(counting)]
+fn count_full_expr(count: &mut u32, expr: &FullExpr) -> Result<(), NoMemory>
+    ensures { OnOk result (count.new ≡ count.old + expr_count (full_expr_of expr.now)) }
 {
     count_key_expr(count, &expr.first)?;
     count_cascade(count, &expr.more)
@@ -123,6 +146,7 @@ fn count_primary(count: &mut u32, primary: &Primary) -> Result<(), NoMemory>
     match primary {
         Primary::Paren(inner) => count_expr(count, inner),
         Primary::Block(block) => count_block(count, block),
+        Primary::BareBlock(body) => count_bare_block(count, body),
         Primary::Tuple { items, .. } => count_items(count, items),
         _ => Ok(()),
     }

@@ -1,12 +1,12 @@
 -- An expression without a further part is what stands before that part.
-use Rattle.std.proofs.Common.{◌≡◌, ◌<◌, ℕ, List, [], ◌∷◌, length, refl, ap, ◌∙◌, length-append, arith}
+use Rattle.std.proofs.Common.{◌≡◌, ◌<◌, ℕ, List, [], ◌∷◌, ◌++◌, length, refl, ap, ◌∙◌, append-nil, length-append, arith}
 use Rattle.std.specs.Prelude.{Some}
 use Rattle.ns_tree.specs.declared.tree.BinExpr.{BinExpr, out-BinExpr}
-use Rattle.ns_tree.specs.declared.tree.Expr.{Expr, out-Expr}
+use Rattle.ns_tree.specs.declared.tree.FullExpr.{FullExpr, out-FullExpr}
 use Rattle.ns_tree.specs.declared.tree.KeyExpr.{KeyExpr, out-KeyExpr}
-use Rattle.ns_tree.specs.PlainOf.{un_of, bin_of, opers_of, keys_of, key_expr_of, cascade_of, expr_of}
+use Rattle.ns_tree.specs.PlainOf.{un_of, bin_of, opers_of, keys_of, key_expr_of, cascade_of, full_expr_of}
 use Rattle.ns_tree.specs.Plain as p
-use Rattle.ns_tree.specs.laws.Nodes.{bin_out, key_expr_some, expr_out}
+use Rattle.ns_tree.specs.laws.Nodes.{bin_out, key_expr_some, full_expr_out}
 use Rattle.ns_scope.specs.declared.scope.Scope.{Scope}
 use Rattle.ns_scope.specs.Bodies as b
 use Rattle.ns_resolved.specs.Expressions as e
@@ -47,17 +47,25 @@ bin_alone_counted scope expr bin is h =
 
 -- ---- without a cascade
 
-key_alone : (expr : Expr) → length (out-Expr expr).more.items < 1 →
-    expr_of expr ≡ p.expr_with (out-Expr expr).sets.items (key_expr_of (out-Expr expr).first) p.no_messages
+key_alone : (expr : FullExpr) → length (out-FullExpr expr).more.items < 1 →
+    full_expr_of expr ≡ p.expr_with (out-FullExpr expr).sets.items (key_expr_of (out-FullExpr expr).first) p.no_messages
 key_alone expr h =
-    expr_out expr ∙ ap (λ l. p.expr_with (out-Expr expr).sets.items (key_expr_of (out-Expr expr).first) (cascade_of l)) (none_left (out-Expr expr).more.items h)
+    full_expr_out expr ∙ ap (λ l. p.expr_with (out-FullExpr expr).sets.items (key_expr_of (out-FullExpr expr).first) (cascade_of l)) (none_left (out-FullExpr expr).more.items h)
 
-pub key_alone_node : (here : e.Standing) (next : ℕ) (expr : Expr) → length (out-Expr expr).more.items < 1 →
-    unset_node here next (expr_of expr) ≡ e.as_value here (e.key_expr_said here next (key_expr_of (out-Expr expr).first))
+pub key_alone_node : (here : e.Standing) (next : ℕ) (expr : FullExpr) → length (out-FullExpr expr).more.items < 1 →
+    unset_node here next (full_expr_of expr) ≡ e.as_value here (e.key_expr_said here next (key_expr_of (out-FullExpr expr).first))
 key_alone_node here next expr h = ap (unset_node here next) (key_alone expr h)
 
-pub key_alone_counted : (scope : Scope) (expr : Expr) → length (out-Expr expr).more.items < 1 →
-    length (b.expr_blocks scope (expr_of expr)) ≡ length (b.key_expr_blocks scope (key_expr_of (out-Expr expr).first))
+pub key_alone_counted : (scope : Scope) (expr : FullExpr) → length (out-FullExpr expr).more.items < 1 →
+    length (b.expr_blocks scope (full_expr_of expr)) ≡ length (b.key_expr_blocks scope (key_expr_of (out-FullExpr expr).first))
 key_alone_counted scope expr h =
     ap (λ x. length (b.expr_blocks scope x)) (key_alone expr h)
-    ∙ omega (length-append (b.key_expr_blocks scope (key_expr_of (out-Expr expr).first)) [], arith)
+    ∙ omega (length-append (b.key_expr_blocks scope (key_expr_of (out-FullExpr expr).first)) [], arith)
+
+-- ---- an operand alone
+
+pub operand_counted : (scope : Scope) (un : p.UnExpr) →
+    length (b.expr_blocks scope (p.expr_with [] (p.sent (p.bin_with un p.no_opers) p.no_keys) p.no_messages)) ≡ length (b.un_blocks scope un)
+operand_counted scope un =
+    let blocks = b.un_blocks scope un in
+    ap length (append-nil ((blocks ++ []) ++ []) ∙ append-nil (blocks ++ []) ∙ append-nil blocks)

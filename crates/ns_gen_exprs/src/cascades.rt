@@ -1,7 +1,7 @@
 //! Cascades: messages to one receiver in turn.
 
 ghost use Rattle.std.specs.Prelude.{◌≡◌, ◌+◌, true, length, IfOk, OnOk};
-ghost use Rattle.ns_tree.specs.PlainOf.{expr_of, key_expr_of, bin_of, un_of, cascade_of, message_of};
+ghost use Rattle.ns_tree.specs.PlainOf.{full_expr_of, key_expr_of, bin_of, un_of, cascade_of, message_of};
 ghost use Rattle.ns_scope.specs.Bodies.{expr_blocks, key_expr_blocks, bin_blocks, un_blocks, cascade_blocks, message_blocks};
 ghost use Rattle.ns_resolved.specs.Expressions.{un_said, bin_said, key_expr_said, message_said};
 ghost use Rattle.ns_gen_draft.specs.Standing.{standing};
@@ -15,7 +15,7 @@ use ns_code::instruction::Instr;
 use ns_gen_draft::here::Here;
 use ns_gen_draft::never::cannot_come;
 use ns_gen_draft::writer::Writer;
-use ns_tree::tree::{BinExpr, Expr, KeyExpr, Message, UnExpr};
+use ns_tree::tree::{BinExpr, FullExpr, KeyExpr, Message, UnExpr};
 
 /// A message of a cascade.
 #[cycle(expressions)]
@@ -144,10 +144,10 @@ pub fn put_cascade(
     writer: &mut Writer,
     here: &Here<'_>,
     next: &mut u32,
-    expr: &Expr,
+    expr: &FullExpr,
 ) -> Result<(), NoMemory>
-    ensures put { OnOk result (writer.new ≡ with_node (unset_node (standing here.now) next.old (expr_of expr.now)) writer.old) }
-    ensures next { OnOk result (next.new ≡ next.old + length (expr_blocks here.now.scope.now (expr_of expr.now))) }
+    ensures put { OnOk result (writer.new ≡ with_node (unset_node (standing here.now) next.old (full_expr_of expr.now)) writer.old) }
+    ensures next { OnOk result (next.new ≡ next.old + length (expr_blocks here.now.scope.now (full_expr_of expr.now))) }
 {
     if expr.more.is_empty() {
         return Err(cannot_come());

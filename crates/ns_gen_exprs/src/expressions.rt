@@ -1,7 +1,7 @@
 //! Expressions: receivers, messages to them, and their arguments.
 
 ghost use Rattle.std.specs.Prelude.{◌≡◌, ◌+◌, length, IfOk, OnOk};
-ghost use Rattle.ns_tree.specs.PlainOf.{expr_of, key_expr_of, keys_of, bin_of, opers_of, un_of, primary_of, exprs_of};
+ghost use Rattle.ns_tree.specs.PlainOf.{expr_of, full_expr_of, key_expr_of, keys_of, bin_of, opers_of, un_of, primary_of, exprs_of};
 ghost use Rattle.ns_scope.specs.Bodies.{expr_blocks, key_expr_blocks, keys_blocks, bin_blocks, opers_blocks, un_blocks, primary_blocks, items_blocks};
 ghost use Rattle.ns_resolved.specs.Program as m;
 ghost use Rattle.ns_resolved.specs.Expressions.{as_receiver, as_value, name_sent, one, un_node, un_said, bin_said};
@@ -11,7 +11,7 @@ ghost use Rattle.ns_gen_exprs.specs.Cascading.{unset_node};
 ghost use Rattle.ns_gen_exprs.specs.Sending.{with_node, with_nodes, with_receiver, with_message, with_opers, with_keywords, with_value, opers_left, keys_left, kept};
 
 use crate::cascades::put_cascade;
-use crate::primaries::{put_alone, put_block};
+use crate::primaries::{put_alone, put_bare_block, put_block};
 use crate::reach::reach_of;
 use crate::receiver::{Receiver, begin, begin_object, put_names, put_value};
 use crate::sets::put_sets;
@@ -21,7 +21,7 @@ use ns_gen_draft::here::Here;
 use ns_gen_draft::keys::{count, joined, keys_count};
 use ns_gen_draft::writer::Writer;
 use ns_tree::parts::first_key;
-use ns_tree::tree::{BinExpr, Expr, KeyExpr, Named, Primary, UnExpr};
+use ns_tree::tree::{BinExpr, Expr, FullExpr, KeyExpr, Named, Primary, UnExpr};
 
 /// A primary with its unary messages, as a receiver.
 #[cycle(expressions)]
@@ -264,10 +264,10 @@ fn put_unset(
     writer: &mut Writer,
     here: &Here<'_>,
     next: &mut u32,
-    expr: &Expr,
+    expr: &FullExpr,
 ) -> Result<(), NoMemory>
-    ensures put { OnOk result (writer.new ≡ with_node (unset_node (standing here.now) next.old (expr_of expr.now)) writer.old) }
-    ensures next { OnOk result (next.new ≡ next.old + length (expr_blocks here.now.scope.now (expr_of expr.now))) }
+    ensures put { OnOk result (writer.new ≡ with_node (unset_node (standing here.now) next.old (full_expr_of expr.now)) writer.old) }
+    ensures next { OnOk result (next.new ≡ next.old + length (expr_blocks here.now.scope.now (full_expr_of expr.now))) }
 {
     match expr.more.as_slice() {
         [] => {
@@ -288,6 +288,23 @@ pub fn put_expr(
 ) -> Result<(), NoMemory>
     ensures put { OnOk result (writer.new ≡ with_node (expr_node (standing here.now) next.old (expr_of expr.now)) writer.old) }
     ensures next { OnOk result (next.new ≡ next.old + length (expr_blocks here.now.scope.now (expr_of expr.now))) }
+{
+    match expr {
+        Expr::Operand(operand) => put_un_value(writer, here, next, operand),
+        Expr::Full(full) => put_full_expr(writer, here, next, full),
+    }
+}
+
+/// An expression that may be more than an operand.
+#[cycle(expressions)]
+fn put_full_expr(
+    writer: &mut Writer,
+    here: &Here<'_>,
+    next: &mut u32,
+    expr: &FullExpr,
+) -> Result<(), NoMemory>
+    ensures put { OnOk result (writer.new ≡ with_node (expr_node (standing here.now) next.old (full_expr_of expr.now)) writer.old) }
+    ensures next { OnOk result (next.new ≡ next.old + length (expr_blocks here.now.scope.now (full_expr_of expr.now))) }
 {
     put_unset(writer, here, next, expr)?;
     put_sets(writer, here, &expr.sets)?;
@@ -348,6 +365,10 @@ pub fn put_primary(
         }
         Primary::Block(block) => {
             put_block(writer, here, next, block)?;
+            Ok(Receiver::Value)
+        }
+        Primary::BareBlock(body) => {
+            put_bare_block(writer, here, next, body)?;
             Ok(Receiver::Value)
         }
         Primary::Tuple { items, .. } => {

@@ -1,7 +1,8 @@
 //! Primaries in which no expression stands that is written in place.
 
-ghost use Rattle.std.specs.Prelude.{◌≡◌, ◌+◌, ℕ, length, IfOk, OnOk};
-ghost use Rattle.ns_tree.specs.PlainOf.{primary_of, block_of};
+ghost use Rattle.std.specs.Prelude.{◌≡◌, ◌+◌, [], ℕ, length, IfOk, OnOk};
+ghost use Rattle.ns_tree.specs.Plain as p;
+ghost use Rattle.ns_tree.specs.PlainOf.{primary_of, block_of, statements_of};
 ghost use Rattle.ns_scope.specs.Bodies.{primary_blocks, block_blocks};
 ghost use Rattle.ns_resolved.specs.Program as m;
 ghost use Rattle.ns_resolved.specs.Expressions.{primary_receiver};
@@ -13,11 +14,11 @@ use crate::receiver::Receiver;
 use ns_base::no_memory::NoMemory;
 use ns_base::text::Text;
 use ns_code::instruction::Instr;
-use ns_gen_draft::counting::count_block;
+use ns_gen_draft::counting::{count_bare_block, count_block};
 use ns_gen_draft::here::Here;
 use ns_gen_draft::never::cannot_come;
 use ns_gen_draft::writer::Writer;
-use ns_tree::tree::{Block, Primary};
+use ns_tree::tree::{Block, Primary, Statements};
 
 /// A block, of which the number alone is written; those in it are passed over.
 #[tactic(auto, using(ns_gen_draft::specs::laws::BlockCounts::block_counted))]
@@ -32,6 +33,21 @@ pub fn put_block(
 {
     writer.does(Instr::PushBlock(*next))?;
     count_block(next, block)
+}
+
+/// A block without parameters and locals, in the same way.
+#[tactic(auto, using(ns_gen_draft::specs::laws::BlockCounts::block_counted))]
+pub fn put_bare_block(
+    writer: &mut Writer,
+    here: &Here<'_>,
+    next: &mut u32,
+    body: &Statements,
+) -> Result<(), NoMemory>
+    ensures put { OnOk result (writer.new ≡ with_node (m.block next.old) writer.old) }
+    ensures next { OnOk result (next.new ≡ next.old + length (block_blocks here.now.scope.now (p.block_with [] p.no_bars (statements_of body.now)))) }
+{
+    writer.does(Instr::PushBlock(*next))?;
+    count_bare_block(next, body)
 }
 
 /// A primary without parts. Any other is written where it is taken apart.

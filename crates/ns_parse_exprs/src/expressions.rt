@@ -320,7 +320,7 @@ fn expr(
     let sets = names(alloc, tokens, Sort::SetKey)?;
     let first = key_expr(alloc, tokens, depth, operators)?;
     match cascade(alloc, tokens, depth, operators) {
-        Ok(more) => Ok(make::expr(sets, first, more)),
+        Ok(more) => Ok(make::expr(alloc, sets, first, more)?),
         Err(fault) => {
             drop(first);
             Err(fault)
@@ -346,11 +346,11 @@ fn init(alloc: Global, tokens: &mut Tokens, depth: usize) -> Result<SlotInit, Pa
     if sees(tokens, Mark::Equals) {
         skip(tokens, Mark::Equals)?;
         let value = value(alloc, tokens, depth)?;
-        Ok(make::fixed(value))
+        Ok(make::fixed(alloc, value)?)
     } else if sees(tokens, Mark::SlotSet) {
         skip(tokens, Mark::SlotSet)?;
         let value = value(alloc, tokens, depth)?;
-        Ok(make::mutable(value))
+        Ok(make::mutable(alloc, value)?)
     } else {
         let stop = skip_if(tokens, Mark::Stop);
         Ok(SlotInit::Bare { stop })

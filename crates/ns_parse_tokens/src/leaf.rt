@@ -12,6 +12,7 @@ use crate::name::{Sort, name};
 use crate::tokens::Tokens;
 use ns_base::no_memory::NoMemory;
 use ns_base::text::Text;
+use ns_tree::make;
 use ns_tree::token::{Kind, Reserved};
 use ns_tree::tree::{Access, Primary};
 use std::alloc::Global;
@@ -210,7 +211,7 @@ pub fn leaf(alloc: Global, tokens: &mut Tokens) -> Result<Primary, ParseFault>
     } else {
         skip(tokens, Mark::OuterWord)?;
         let name = name(alloc, tokens, Sort::Ident)?;
-        Ok(Primary::Outer(name))
+        Ok(make::outer(alloc, name)?)
     }
 }
 

@@ -5,7 +5,7 @@ ghost use Rattle.ns_tree.specs.Flat.{flat_expr, flat_cascade, flat_message, flat
 ghost use Rattle.ns_tree.specs.Flat.{flat_items, flat_block, flat_params, flat_bars, flat_slot, flat_init, flat_statements, flat_list, flat_statement};
 ghost use Rattle.ns_tree.specs.declared.token.Kind.TheVariants as k;
 ghost use Rattle.ns_tree.specs.Plain as p;
-ghost use Rattle.ns_tree.specs.PlainOf.{expr_of, cascade_of, message_of, key_expr_of, keys_of, bin_of, opers_of, un_of, primary_of};
+ghost use Rattle.ns_tree.specs.PlainOf.{expr_of, full_expr_of, cascade_of, message_of, key_expr_of, keys_of, bin_of, opers_of, un_of, primary_of};
 ghost use Rattle.ns_tree.specs.PlainOf.{exprs_of, block_of, slots_of, slot_of, init_of, statements_of, statement_list_of, statement_of};
 ghost use Rattle.ns_print.specs.Printed.{lines};
 
@@ -15,13 +15,23 @@ use crate::tokens::{
 };
 use ns_base::no_memory::NoMemory;
 use ns_tree::tree::{
-    BinExpr, Block, Expr, KeyExpr, Message, Named, Primary, Slot, SlotInit, Statement, Statements,
-    UnExpr,
+    BinExpr, Block, Expr, FullExpr, KeyExpr, Message, Named, Primary, Slot, SlotInit, Statement,
+    Statements, UnExpr,
 };
 
 #[cycle(expressions)]
 pub fn put_expr(out: &mut Vec<u8>, expr: &Expr) -> Result<(), NoMemory>
     ensures { OnOk result (out.new.items ≡ out.old.items ++ lines (flat_expr (expr_of expr.now))) }
+{
+    match expr {
+        Expr::Operand(operand) => put_un(out, operand),
+        Expr::Full(full) => put_full_expr(out, full),
+    }
+}
+
+#[cycle(expressions)]
+fn put_full_expr(out: &mut Vec<u8>, expr: &FullExpr) -> Result<(), NoMemory>
+    ensures { OnOk result (out.new.items ≡ out.old.items ++ lines (flat_expr (full_expr_of expr.now))) }
 {
     put_set_keys(out, &expr.sets)?;
     put_key_expr(out, &expr.first)?;
@@ -126,6 +136,7 @@ fn put_primary(out: &mut Vec<u8>, primary: &Primary) -> Result<(), NoMemory>
         Primary::Outer(name) => put_outer(out, name),
         Primary::Paren(inner) => put_paren(out, inner),
         Primary::Block(block) => put_block(out, block),
+        Primary::BareBlock(body) => put_bare_block(out, body),
         Primary::Tuple { items, stop } => put_tuple(out, items, *stop),
     }
 }
@@ -194,6 +205,14 @@ fn put_block(out: &mut Vec<u8>, block: &Block) -> Result<(), NoMemory>
             put_block_end(out, &block.body)
         }
     }
+}
+
+#[cycle(expressions)]
+fn put_bare_block(out: &mut Vec<u8>, body: &Statements) -> Result<(), NoMemory>
+    ensures { OnOk result (out.new.items ≡ out.old.items ++ lines (flat_block (p.block_with [] p.no_bars (statements_of body.now)))) }
+{
+    put(out, b"[")?;
+    put_block_end(out, body)
 }
 
 #[cycle(expressions)]

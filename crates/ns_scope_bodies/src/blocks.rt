@@ -1,7 +1,8 @@
 //! The blocks of expressions, each as what is seen from it, in the order of the text.
 
 ghost use Rattle.std.specs.Prelude.{◌≡◌, ◌++◌, ◌∷◌, [], OnOk};
-ghost use Rattle.ns_tree.specs.PlainOf.{expr_of, cascade_of, message_of, key_expr_of, keys_of, bin_of, opers_of, un_of, primary_of};
+ghost use Rattle.ns_tree.specs.PlainOf.{expr_of, full_expr_of, cascade_of, message_of, key_expr_of, keys_of, bin_of, opers_of, un_of, primary_of};
+ghost use Rattle.ns_tree.specs.Plain as p;
 ghost use Rattle.ns_tree.specs.PlainOf.{exprs_of, block_of, bars_of, slots_of, slot_of, statements_of, statement_list_of};
 ghost use Rattle.ns_scope.specs.Bodies.{expr_blocks, cascade_blocks, message_blocks, key_expr_blocks, keys_blocks, bin_blocks, opers_blocks, un_blocks, primary_blocks};
 ghost use Rattle.ns_scope.specs.Bodies.{items_blocks, block_blocks, inside_blocks, bars_blocks, slots_blocks, slot_blocks, statements_blocks, list_blocks};
@@ -9,14 +10,29 @@ ghost use Rattle.ns_scope.specs.Bodies.{items_blocks, block_blocks, inside_block
 use ns_base::no_memory::NoMemory;
 use ns_scope::scope::Scope;
 use ns_tree::tree::{
-    BinExpr, Block, Expr, KeyExpr, Message, Named, Primary, Slot, SlotInit, Statement, Statements,
-    UnExpr,
+    BinExpr, Block, Expr, FullExpr, KeyExpr, Message, Named, Primary, Slot, SlotInit, Statement,
+    Statements, UnExpr,
 };
 use std::alloc::Global;
 
 #[cycle(blocks)]
 fn put_expr(alloc: Global, all: &mut Vec<Scope>, scope: &Scope, expr: &Expr) -> Result<(), NoMemory>
     ensures { OnOk result (all.new.items ≡ all.old.items ++ expr_blocks scope.now (expr_of expr.now)) }
+{
+    match expr {
+        Expr::Operand(operand) => put_un(alloc, all, scope, operand),
+        Expr::Full(full) => put_full_expr(alloc, all, scope, full),
+    }
+}
+
+#[cycle(blocks)]
+fn put_full_expr(
+    alloc: Global,
+    all: &mut Vec<Scope>,
+    scope: &Scope,
+    expr: &FullExpr,
+) -> Result<(), NoMemory>
+    ensures { OnOk result (all.new.items ≡ all.old.items ++ expr_blocks scope.now (full_expr_of expr.now)) }
 {
     put_key_expr(alloc, all, scope, &expr.first)?;
     put_cascade(alloc, all, scope, &expr.more)
@@ -133,6 +149,7 @@ fn put_primary(
     match primary {
         Primary::Paren(inner) => put_expr(alloc, all, scope, inner),
         Primary::Block(block) => put_block(alloc, all, scope, block),
+        Primary::BareBlock(body) => put_bare_block(alloc, all, scope, body),
         Primary::Tuple { items, .. } => put_items(alloc, all, scope, items),
         _ => Ok(()),
     }
@@ -174,6 +191,21 @@ fn put_block(
     let inner = Scope::block(alloc, scope, &block.params, &block.slots)?;
     put_scope(all, &inner)?;
     put_inside(alloc, all, &inner, block)
+}
+
+/// A block without parameters and locals, and then the blocks in it.
+#[cycle(blocks)]
+fn put_bare_block(
+    alloc: Global,
+    all: &mut Vec<Scope>,
+    scope: &Scope,
+    body: &Statements,
+) -> Result<(), NoMemory>
+    ensures { OnOk result (all.new.items ≡ all.old.items ++ block_blocks scope.now (p.block_with [] p.no_bars (statements_of body.now))) }
+{
+    let inner = Scope::block(alloc, scope, &[], &None)?;
+    put_scope(all, &inner)?;
+    put_statements(alloc, all, &inner, body)
 }
 
 /// The blocks in a block, which sees this.

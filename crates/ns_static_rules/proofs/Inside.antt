@@ -1,15 +1,24 @@
--- What is found in a block.
-use Rattle.std.proofs.Common.{◌≡◌, refl, ◌++◌}
+-- What is found in a block, and in an operand.
+use Rattle.std.proofs.Common.{◌≡◌, ◌∙◌, refl, [], ◌++◌, append-nil}
 use Rattle.ns_tree.specs.declared.tree.Block.{Block, out-Block}
+use Rattle.ns_tree.specs.Plain as p
 use Rattle.ns_tree.specs.PlainOf.{block_of, bars_of}
 use Rattle.ns_tree.specs.laws.Nodes.{block_out}
 use Rattle.ns_scope.specs.declared.scope.Scope.{Scope}
 use Rattle.ns_scope.specs.Names.{locals_of}
 use Rattle.ns_scope.specs.Scopes.{block_scope}
 use Rattle.ns_static_rules.specs.Rules.{locals_found}
-use Rattle.ns_static_rules.specs.Faults.{block_faults, inside_faults}
+use Rattle.ns_static_rules.specs.Faults.{block_faults, inside_faults, expr_faults, un_faults}
+use Rattle.ns_static_rules.specs.declared.fault.Role.TheVariants as r
 
 pub block_and_inside : (scope : Scope) (e : Block) →
     block_faults scope (block_of e) ≡ locals_found (locals_of (out-Block e).params.items (bars_of (out-Block e).slots))
     ++ inside_faults (block_scope scope (out-Block e).params.items (bars_of (out-Block e).slots)) (block_of e)
 block_and_inside scope e = rw (block_out e) refl
+
+-- an operand alone is neither a receiver nor an argument
+pub operand_faults : (scope : Scope) (un : p.UnExpr) →
+    expr_faults scope (p.expr_with [] (p.sent (p.bin_with un p.no_opers) p.no_keys) p.no_messages) ≡ un_faults scope r.Value un
+operand_faults scope un =
+    let found = un_faults scope r.Value un in
+    append-nil ((found ++ []) ++ []) ∙ append-nil (found ++ []) ∙ append-nil found

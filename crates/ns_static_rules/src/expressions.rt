@@ -1,8 +1,9 @@
 //! The faults of expressions, statements and slots. Each function finds what the definition of its
 //! name lists.
 
-ghost use Rattle.std.specs.Prelude.{◌≡◌, ◌++◌, flat_map, OnOk};
-ghost use Rattle.ns_tree.specs.PlainOf.{expr_of, cascade_of, message_of, key_expr_of, keys_of, bin_of, opers_of, un_of, primary_of};
+ghost use Rattle.std.specs.Prelude.{◌≡◌, ◌++◌, [], flat_map, OnOk};
+ghost use Rattle.ns_tree.specs.Plain as p;
+ghost use Rattle.ns_tree.specs.PlainOf.{expr_of, full_expr_of, cascade_of, message_of, key_expr_of, keys_of, bin_of, opers_of, un_of, primary_of};
 ghost use Rattle.ns_tree.specs.PlainOf.{exprs_of, block_of, slots_of, init_of, bars_of, statements_of, statement_list_of, statement_of};
 ghost use Rattle.ns_static_rules.specs.Rules.{set_found, bare_found, outer_found, number_found};
 ghost use Rattle.ns_static_rules.specs.Faults.{expr_faults, cascade_faults, message_faults, key_expr_faults, keys_faults, bin_faults, opers_faults, un_faults, primary_faults};
@@ -20,13 +21,27 @@ use crate::rules::{
 use ns_base::no_memory::NoMemory;
 use ns_scope::scope::Scope;
 use ns_tree::tree::{
-    BinExpr, Block, Expr, KeyExpr, Message, Named, Primary, Slot, SlotInit, Statement, Statements,
-    UnExpr,
+    BinExpr, Block, Expr, FullExpr, KeyExpr, Message, Named, Primary, Slot, SlotInit, Statement,
+    Statements, UnExpr,
 };
 
 #[cycle(expressions)]
 pub fn expr_faults(checker: &mut Checker<'_>, scope: &Scope, expr: &Expr) -> Result<(), NoMemory>
     ensures { OnOk result (checker.new ≡ with_found checker.old (expr_faults scope.now (expr_of expr.now))) }
+{
+    match expr {
+        Expr::Operand(operand) => un_faults(checker, scope, Role::Value, operand),
+        Expr::Full(full) => full_expr_faults(checker, scope, full),
+    }
+}
+
+#[cycle(expressions)]
+fn full_expr_faults(
+    checker: &mut Checker<'_>,
+    scope: &Scope,
+    expr: &FullExpr,
+) -> Result<(), NoMemory>
+    ensures { OnOk result (checker.new ≡ with_found checker.old (expr_faults scope.now (full_expr_of expr.now))) }
 {
     sets_found(checker, scope, &expr.sets);
     cascade_found(checker, &expr.first, &expr.more);
@@ -177,6 +192,7 @@ fn primary_faults(
         Primary::Outer(name) => outer_faults(checker, scope, role, at, name),
         Primary::Paren(inner) => expr_faults(checker, scope, inner),
         Primary::Block(block) => block_faults(checker, scope, block),
+        Primary::BareBlock(body) => bare_block_faults(checker, scope, body),
         Primary::Tuple { items, stop: _ } => tuple_faults(checker, scope, items),
     }
 }
@@ -234,6 +250,19 @@ fn block_faults(checker: &mut Checker<'_>, scope: &Scope, block: &Block) -> Resu
 {
     let inner = enter_block(checker, scope, &block.params, &block.slots)?;
     inside_faults(checker, &inner, block)
+}
+
+/// A block without parameters and locals.
+#[cycle(expressions)]
+fn bare_block_faults(
+    checker: &mut Checker<'_>,
+    scope: &Scope,
+    body: &Statements,
+) -> Result<(), NoMemory>
+    ensures { OnOk result (checker.new ≡ with_found checker.old (block_faults scope.now (p.block_with [] p.no_bars (statements_of body.now)))) }
+{
+    let inner = enter_block(checker, scope, &[], &None)?;
+    statements_faults(checker, &inner, body)
 }
 
 /// What stands in a block, which sees this.

@@ -3,7 +3,7 @@
 ghost use Rattle.std.specs.Prelude.{◌≡◌, slice_get};
 ghost use Rattle.std.specs.List.{list_any};
 ghost use Rattle.std.specs.Str.{bytes_eq};
-ghost use Rattle.ns_tree.specs.PlainOf.{expr_of, key_expr_of, keys_of, bin_of, opers_of, un_of, primary_of, cascade_of, exprs_of};
+ghost use Rattle.ns_tree.specs.PlainOf.{expr_of, full_expr_of, key_expr_of, keys_of, bin_of, opers_of, un_of, primary_of, cascade_of, exprs_of};
 ghost use Rattle.ns_scope.specs.Resolve.{innermost};
 ghost use Rattle.ns_static_rules.specs.Rules.{set_found, return_found, bare_found, outer_found, number_found, cascade_found};
 ghost use Rattle.ns_static_rules.specs.Rules.{setting_is_fixed, is_fixed, is_bare, unary_sends, is_written, un_sends, opers_send, bin_sends, written_bin, sends_to_written, has_names, has_opers, has_keys};
@@ -16,7 +16,7 @@ use ns_scope::chain::{Chain, Link};
 use ns_scope::names::Setting;
 use ns_scope::scope::{ClassScope, Scope};
 use ns_tree::parts::first_key;
-use ns_tree::tree::{BinExpr, Expr, KeyExpr, Message, Named, Primary, UnExpr};
+use ns_tree::tree::{BinExpr, Expr, FullExpr, KeyExpr, Message, Named, Primary, UnExpr};
 
 /// FixedLocal, at `x::`, where x can't be set.
 pub fn set_found(checker: &mut Checker<'_>, scope: &Scope, name: &Named)
@@ -193,6 +193,7 @@ fn is_bare(primary: &Primary) -> bool
         Primary::SelfWord => false,
         Primary::Paren(_) => false,
         Primary::Block(_) => false,
+        Primary::BareBlock(_) => false,
         Primary::Tuple { items: _, stop: _ } => false,
     }
 }
@@ -275,6 +276,15 @@ fn element_past(items: &[Expr], most: usize) -> Option<u32>
 /// The number of an expression's first token.
 fn expr_start(expr: &Expr) -> u32
     ensures { result ≡ expr_start (expr_of expr.now) }
+{
+    match expr {
+        Expr::Operand(operand) => operand.at,
+        Expr::Full(full) => full_expr_start(full),
+    }
+}
+
+fn full_expr_start(expr: &FullExpr) -> u32
+    ensures { result ≡ expr_start (full_expr_of expr.now) }
 {
     match expr.sets.as_slice() {
         [] => key_expr_start(&expr.first),

@@ -3,10 +3,11 @@
 use Rattle.std.specs.Prelude.{ℕ, List, [], ◌∷◌, Option, Some, None, option_map}
 use Rattle.std.specs.Global.{Vec}
 use Rattle.ns_tree.specs.Plain as p
-use Rattle.ns_tree.specs.declared.tree.Message.TheBlock as b
+use Rattle.ns_tree.specs.declared.tree.Expr.TheBlock as b
 use Rattle.ns_tree.specs.declared.tree.What.TheBlock as c
 use Rattle.ns_tree.specs.declared.tree.Named.{Named}
 use Rattle.ns_tree.specs.declared.tree.Expr.{Expr}
+use Rattle.ns_tree.specs.declared.tree.FullExpr.{FullExpr}
 use Rattle.ns_tree.specs.declared.tree.Message.{Message}
 use Rattle.ns_tree.specs.declared.tree.KeyExpr.{KeyExpr}
 use Rattle.ns_tree.specs.declared.tree.BinExpr.{BinExpr}
@@ -30,11 +31,16 @@ use Rattle.ns_tree.specs.declared.tree.Unit as u
 
 abbrev mutual
   pub expr_of : Expr → p.Expr
-  expr_of (b.struct-Expr sets first _ more) = p.expr_with sets.items (key_expr_of first) (cascade_row more)
+  expr_of (b.Operand' at primary names) =
+      p.expr_with [] (p.sent (p.bin_with (p.un_with at (primary_of primary) names.items) p.no_opers) p.no_keys) p.no_messages
+  expr_of (b.Full' _ full) = full_expr_of full
 
-  pub cascade_row : {n : _} → b.Row_of-Expr-more-2 n → p.Cascade
-  cascade_row b.end_of-Expr-more-2 = p.no_messages
-  cascade_row (b.more_of-Expr-more-2 at message rest) = p.more_messages at (message_of message) (cascade_row rest)
+  pub full_expr_of : FullExpr → p.Expr
+  full_expr_of (b.struct-FullExpr sets first _ more) = p.expr_with sets.items (key_expr_of first) (cascade_row more)
+
+  pub cascade_row : {n : _} → b.Row_of-FullExpr-more-2 n → p.Cascade
+  cascade_row b.end_of-FullExpr-more-2 = p.no_messages
+  cascade_row (b.more_of-FullExpr-more-2 at message rest) = p.more_messages at (message_of message) (cascade_row rest)
 
   pub message_of : Message → p.Message
   message_of (b.Unary name) = p.unary name
@@ -69,10 +75,11 @@ abbrev mutual
   primary_of b.False = p.false_word
   primary_of b.SelfWord = p.self_word
   primary_of b.Super = p.super_word
-  primary_of (b.Outer name) = p.outer_name name
+  primary_of (b.Outer name) = p.outer_name name.value
   primary_of (b.Paren' _ inner) = p.paren (expr_of inner)
   primary_of (b.Block' _ block) = p.block_literal (block_of block)
-  primary_of (b.Tuple' _ items stop) = p.tuple (exprs_row items) stop
+  primary_of (b.BareBlock' _ body) = p.block_literal (p.block_with [] p.no_bars (statements_of body))
+  primary_of (b.Tuple' stop _ items) = p.tuple (exprs_row items) stop
 
   pub exprs_row : {n : _} → b.Row_of-Expr n → p.Exprs
   exprs_row b.end_of-Expr = p.no_exprs
@@ -91,21 +98,21 @@ abbrev mutual
 
   pub init_of : SlotInit → p.SlotInit
   init_of (b.Bare stop) = p.bare stop
-  init_of (b.Fixed expr) = p.fixed (expr_of expr)
-  init_of (b.Mutable expr) = p.mutable (expr_of expr)
+  init_of (b.Fixed' _ expr) = p.fixed (expr_of expr)
+  init_of (b.Mutable' _ expr) = p.mutable (expr_of expr)
 
   pub statements_of : Statements → p.Statements
   statements_of (b.struct-Statements _ list stop) = p.statements_with (statements_row list) stop
 
   pub statements_row : {n : _} → b.Row_of-Statement n → p.StatementList
   statements_row b.end_of-Statement = p.no_statements
-  statements_row (b.more_of-Statement statement rest) = p.more_statements (statement_of statement) (statements_row rest)
-
-  pub statement_of : Statement → p.Statement
-  statement_of (b.struct-Statement caret expr) = p.statement_with caret (expr_of expr)
+  statements_row (b.more_of-Statement caret expr rest) = p.more_statements (p.statement_with caret (expr_of expr)) (statements_row rest)
 
 abbrev pub un_of : UnExpr → p.UnExpr
 un_of un = p.un_with un.at (primary_of un.primary) un.names.items
+
+abbrev pub statement_of : Statement → p.Statement
+statement_of statement = p.statement_with statement.caret (expr_of statement.expr)
 
 abbrev pub slot_of : Slot → p.Slot
 slot_of slot = p.slot_with slot.access slot.name (init_of slot.init)

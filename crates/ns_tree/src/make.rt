@@ -1,15 +1,15 @@
 //! A maker for each node of a tree that holds a vector, a box or an option of nodes, and for the nodes
 //! around them. Each says the node's plain form, so that who makes a tree sees plain forms alone.
 
-ghost use Rattle.std.specs.Prelude.{◌≡◌, [], IfOk, option_map};
+ghost use Rattle.std.specs.Prelude.{◌≡◌, [], IfErr, IfOk, option_map};
 ghost use Rattle.ns_tree.specs.Plain as p;
-ghost use Rattle.ns_tree.specs.PlainOf.{expr_of, message_of, key_expr_of, bin_of, un_of, primary_of, block_of, slot_of, init_of, statements_of, statement_of};
+ghost use Rattle.ns_tree.specs.PlainOf.{expr_of, full_expr_of, message_of, key_expr_of, bin_of, un_of, primary_of, block_of, slot_of, init_of, statements_of, statement_of};
 ghost use Rattle.ns_tree.specs.PlainOf.{cascade_of, keys_of, opers_of, exprs_of, bars_of, statement_list_of, members_of, class_side_of};
 ghost use Rattle.ns_tree.specs.PlainOf.{pattern_of, clause_of, method_of, class_of, side_of, member_of, what_of, unit_of};
 
 use crate::tree::{
-    Access, Base, BinExpr, Block, Class, Expr, KeyExpr, Member, Message, Method, Named, Pattern,
-    Primary, Side, Slot, SlotInit, Statement, Statements, SuperClause, UnExpr, Unit, What,
+    Access, Base, BinExpr, Block, Class, Expr, FullExpr, KeyExpr, Member, Message, Method, Named,
+    Pattern, Primary, Side, Slot, SlotInit, Statement, Statements, SuperClause, UnExpr, Unit, What,
 };
 use ns_base::no_memory::NoMemory;
 use ns_base::text::Text;
@@ -19,13 +19,68 @@ use std::alloc::Global;
 const SHORT_LIST: usize = 64;
 
 /// Sets, an expression, and the messages of its cascade.
-pub fn expr(sets: Vec<Named>, first: KeyExpr, more: Vec<(u32, Message)>) -> Expr
-    ensures { expr_of result ≡ p.expr_with sets.items (key_expr_of first) (cascade_of more.items) }
+pub fn expr(
+    alloc: Global,
+    sets: Vec<Named>,
+    first: KeyExpr,
+    more: Vec<(u32, Message)>,
+) -> Result<Expr, NoMemory>
+    ensures { IfOk result (λ expr. expr_of expr ≡ p.expr_with sets.items (key_expr_of first) (cascade_of more.items)) }
 {
-    Expr {
+    if sets.is_empty() && more.is_empty() {
+        match alone(first) {
+            Ok(operand) => Ok(Expr::Operand(operand)),
+            Err(first) => full(alloc, sets, first, more),
+        }
+    } else {
+        full(alloc, sets, first, more)
+    }
+}
+
+/// The same, as more than an operand.
+fn full(
+    alloc: Global,
+    sets: Vec<Named>,
+    first: KeyExpr,
+    more: Vec<(u32, Message)>,
+) -> Result<Expr, NoMemory>
+    ensures { IfOk result (λ expr. expr_of expr ≡ p.expr_with sets.items (key_expr_of first) (cascade_of more.items)) }
+{
+    let full = full_expr(sets, first, more);
+    Ok(Expr::Full(Box::new(alloc, full)?))
+}
+
+fn full_expr(sets: Vec<Named>, first: KeyExpr, more: Vec<(u32, Message)>) -> FullExpr
+    ensures { full_expr_of result ≡ p.expr_with sets.items (key_expr_of first) (cascade_of more.items) }
+{
+    FullExpr {
         sets: fitted(sets),
         first,
         more: fitted(more),
+    }
+}
+
+/// The operand that is all of an expression, or the expression.
+fn alone(expr: KeyExpr) -> Result<UnExpr, KeyExpr>
+    ensures alone { IfOk result (λ operand. key_expr_of expr ≡ p.sent (p.bin_with (un_of operand) p.no_opers) p.no_keys) }
+    ensures same { IfErr result (λ same. key_expr_of same ≡ key_expr_of expr) }
+{
+    let KeyExpr { receiver, keys } = expr;
+    match receiver {
+        None => Err(implicit(keys)),
+        Some(bin) => without_messages(bin, keys),
+    }
+}
+
+/// The operand of an expression without keys and binary messages, or the expression.
+fn without_messages(bin: BinExpr, keys: Vec<(Named, BinExpr)>) -> Result<UnExpr, KeyExpr>
+    ensures alone { IfOk result (λ operand. p.sent (bin_of bin) (keys_of keys.items) ≡ p.sent (p.bin_with (un_of operand) p.no_opers) p.no_keys) }
+    ensures same { IfErr result (λ same. key_expr_of same ≡ p.sent (bin_of bin) (keys_of keys.items)) }
+{
+    if keys.is_empty() && bin.more.is_empty() {
+        Ok(bin.first)
+    } else {
+        Err(sent(bin, keys))
     }
 }
 
@@ -84,6 +139,13 @@ pub fn un(at: u32, primary: Primary, names: Vec<Named>) -> UnExpr
     }
 }
 
+/// A class around.
+pub fn outer(alloc: Global, name: Named) -> Result<Primary, NoMemory>
+    ensures { IfOk result (λ primary. primary_of primary ≡ p.outer_name name) }
+{
+    Ok(Primary::Outer(Box::new(alloc, name)?))
+}
+
 /// An expression in parentheses.
 pub fn paren(alloc: Global, inner: Expr) -> Result<Primary, NoMemory>
     ensures { IfOk result (λ primary. primary_of primary ≡ p.paren (expr_of inner)) }
@@ -95,7 +157,11 @@ pub fn paren(alloc: Global, inner: Expr) -> Result<Primary, NoMemory>
 pub fn block_literal(alloc: Global, block: Block) -> Result<Primary, NoMemory>
     ensures { IfOk result (λ primary. primary_of primary ≡ p.block_literal (block_of block)) }
 {
-    Ok(Primary::Block(Box::new(alloc, block)?))
+    if block.params.is_empty() && block.slots.is_none() {
+        Ok(Primary::BareBlock(Box::new(alloc, block.body)?))
+    } else {
+        Ok(Primary::Block(Box::new(alloc, block)?))
+    }
 }
 
 /// A tuple.
@@ -103,8 +169,8 @@ pub fn tuple(items: Vec<Expr>, stop: bool) -> Primary
     ensures { primary_of result ≡ p.tuple (exprs_of items.items) stop }
 {
     Primary::Tuple {
-        items: fitted(items),
         stop,
+        items: fitted(items),
     }
 }
 
@@ -127,17 +193,17 @@ pub fn slot(access: Option<Access>, name: Named, init: SlotInit) -> Slot
 }
 
 /// An immutable slot's beginning.
-pub fn fixed(value: Expr) -> SlotInit
-    ensures { init_of result ≡ p.fixed (expr_of value) }
+pub fn fixed(alloc: Global, value: Expr) -> Result<SlotInit, NoMemory>
+    ensures { IfOk result (λ init. init_of init ≡ p.fixed (expr_of value)) }
 {
-    SlotInit::Fixed(value)
+    Ok(SlotInit::Fixed(Box::new(alloc, value)?))
 }
 
 /// A mutable slot's beginning.
-pub fn mutable(value: Expr) -> SlotInit
-    ensures { init_of result ≡ p.mutable (expr_of value) }
+pub fn mutable(alloc: Global, value: Expr) -> Result<SlotInit, NoMemory>
+    ensures { IfOk result (λ init. init_of init ≡ p.mutable (expr_of value)) }
 {
-    SlotInit::Mutable(value)
+    Ok(SlotInit::Mutable(Box::new(alloc, value)?))
 }
 
 /// Statements.

@@ -86,8 +86,8 @@ pub struct Slot {
 #[derive(Drop)]
 pub enum SlotInit {
     Bare { stop: bool },
-    Fixed(Expr),
-    Mutable(Expr),
+    Fixed(Box<Expr>),
+    Mutable(Box<Expr>),
 }
 
 /// The members of a class, on one side, and the categories behind them.
@@ -148,11 +148,19 @@ pub struct Statement {
     pub expr: Expr,
 }
 
+/// An expression: an operand alone, as most are, or more than that.
+#[cycle(exprs)]
+#[derive(Drop)]
+pub enum Expr {
+    Operand(UnExpr),
+    Full(Box<FullExpr>),
+}
+
 /// The names that are set, an expression, and the messages of its cascade, each with the number of
 /// its `;`.
 #[cycle(exprs)]
 #[derive(Drop)]
-pub struct Expr {
+pub struct FullExpr {
     pub sets: Vec<Named>,
     pub first: KeyExpr,
     pub more: Vec<(u32, Message)>,
@@ -193,7 +201,7 @@ pub struct UnExpr {
     pub names: Vec<Named>,
 }
 
-/// What an expression is built from.
+/// What an expression is built from. A bare block is one without parameters and locals.
 #[cycle(exprs)]
 #[derive(Drop)]
 pub enum Primary {
@@ -206,8 +214,9 @@ pub enum Primary {
     False,
     SelfWord,
     Super,
-    Outer(Named),
+    Outer(Box<Named>),
     Paren(Box<Expr>),
     Block(Box<Block>),
-    Tuple { items: Vec<Expr>, stop: bool },
+    BareBlock(Box<Statements>),
+    Tuple { stop: bool, items: Vec<Expr> },
 }

@@ -1,9 +1,9 @@
 use Rattle.std.proofs.Common.{◌≡◌, ◌∙◌, ℕ, ◌+◌, ◌-◌, length, take, drop, length-drop, refl, sym, arith}
 use Rattle.ns_tree.specs.declared.tree.BinExpr.{out-BinExpr}
-use Rattle.ns_tree.specs.declared.tree.Expr.{out-Expr}
+use Rattle.ns_tree.specs.declared.tree.FullExpr.{out-FullExpr}
 use Rattle.ns_tree.specs.declared.tree.KeyExpr.{out-KeyExpr}
 use Rattle.ns_tree.specs.PlainOf.{un_of, opers_of, keys_of, bin_of, key_expr_of, primary_of}
-use Rattle.ns_tree.specs.laws.Nodes.{bin_out, expr_out, key_expr_none, key_expr_some, keywords_out, tuple_out}
+use Rattle.ns_tree.specs.laws.Nodes.{bin_out, full_expr_out, operand_out, key_expr_none, key_expr_some, keywords_out, tuple_out}
 use Rattle.ns_scope.specs.Bodies.{bin_blocks, key_expr_blocks}
 use Rattle.ns_resolved.specs.Expressions.{un_node, un_said, bin_said, key_expr_said, primary_receiver}
 use Rattle.ns_gen_draft.specs.Standing.{standing}
@@ -12,7 +12,7 @@ use Rattle.ns_gen_exprs.specs.Sending.{keys_left}
 use Rattle.ns_gen_exprs.proofs.Walking.{oper_put, bin_put, bin_kept, keywords_whole, implicit_whole, keyed_put, keyed_left, received_put}
 use Rattle.ns_gen_exprs.proofs.Walking.{keys_step, keys_number, items_step, items_number, expr_put}
 use Rattle.ns_gen_exprs.proofs.Firsts.{IsFirst, parted, un_first, bin_first, keys_first, rest_step, rest_number}
-use Rattle.ns_gen_exprs.proofs.Alone.{un_alone_said, un_alone_counted, bin_alone_said, bin_alone_counted, key_alone_node, key_alone_counted}
+use Rattle.ns_gen_exprs.proofs.Alone.{un_alone_said, un_alone_counted, bin_alone_said, bin_alone_counted, key_alone_node, key_alone_counted, operand_counted}
 use Rattle.ns_gen_exprs.proofs.Cascaded.{cascade_whole, some_more}
 use Rattle.ns_gen_exprs.proofs.+expressions.Goals as goal
 
@@ -34,11 +34,11 @@ expressions::put_bin-returns-clause-next t c =
     rw (bin_out c.args.bin.now)
     (behind_both _ _ c.args.next.now c.put_un.new.next c.put_opers.new.next c.in_ok-receiver.ensures.next (rw c.deref.ensures.value at c.in_ok-behind.ensures.next))
 
-pub expressions::put_expr-returns-clause-put : goal.expressions::put_expr-returns-clause-put
-expressions::put_expr-returns-clause-put t c =
-    rw (expr_out c.args.expr.now)
-    (expr_put (standing c.args.here.now) (out-Expr c.args.expr.now).sets.items _ c.args.writer.now c.put_unset.new.writer c.put_sets.new.writer
-    (rw (expr_out c.args.expr.now) at c.in_ok-put_unset.ensures.put) (rw c.deref.ensures.value at c.in_ok-put_sets.ensures))
+pub expressions::put_full_expr-returns-clause-put : goal.expressions::put_full_expr-returns-clause-put
+expressions::put_full_expr-returns-clause-put t c =
+    rw (full_expr_out c.args.expr.now)
+    (expr_put (standing c.args.here.now) (out-FullExpr c.args.expr.now).sets.items _ c.args.writer.now c.put_unset.new.writer c.put_sets.new.writer
+    (rw (full_expr_out c.args.expr.now) at c.in_ok-put_unset.ensures.put) (rw c.deref.ensures.value at c.in_ok-put_sets.ensures))
 
 pub expressions::put_implicit-returns-clause-put : goal.expressions::put_implicit-returns-clause-put
 expressions::put_implicit-returns-clause-put t c =
@@ -263,15 +263,15 @@ cascades::put_first-returns-in_ok-put_keywords-in-len1-up-clause-next t c = (fir
 
 pub cascades::put_cascade-returns-clause-put : goal.cascades::put_cascade-returns-clause-put
 cascades::put_cascade-returns-clause-put t c =
-    rw (expr_out c.args.expr.now)
-    (cascade_whole (standing c.args.here.now) c.args.next.now c.put_first.new.next (key_expr_of (out-Expr c.args.expr.now).first)
-    (out-Expr c.args.expr.now).sets.items (out-Expr c.args.expr.now).more.items c.in_ok-receiver.receiver c.args.writer.now c.put_first.new.writer
+    rw (full_expr_out c.args.expr.now)
+    (cascade_whole (standing c.args.here.now) c.args.next.now c.put_first.new.next (key_expr_of (out-FullExpr c.args.expr.now).first)
+    (out-FullExpr c.args.expr.now).sets.items (out-FullExpr c.args.expr.now).more.items c.in_ok-receiver.receiver c.args.writer.now c.put_first.new.writer
     c.put_rest.new.writer c.in_ok-receiver.ensures.put c.in_ok-receiver.ensures.kept c.in_ok-receiver.ensures.said c.in_ok-receiver.ensures.next
     (sym c.if-not-is_repeated.ensures) (some_more _ _ (omega (rw c.deref.ensures.value at c.deref.ensures.len, arith)) c.if-is_empty.ensures) (rw c.deref.ensures.value at c.in_ok-put_rest.ensures.put))
 
 pub cascades::put_cascade-returns-clause-next : goal.cascades::put_cascade-returns-clause-next
 cascades::put_cascade-returns-clause-next t c =
-    rw (expr_out c.args.expr.now)
+    rw (full_expr_out c.args.expr.now)
     (behind_both _ _ c.args.next.now c.put_first.new.next c.put_rest.new.next c.in_ok-receiver.ensures.next
     (rw c.deref.ensures.value at c.in_ok-put_rest.ensures.next))
 
@@ -284,3 +284,12 @@ pub expressions::put_unset-returns-in_ok-put_key_value-in-empty-clause-next : go
 expressions::put_unset-returns-in_ok-put_key_value-in-empty-clause-next t c =
     rw (key_alone_counted c.args.here.now.scope.now c.args.expr.now (rw c.as_slice.ensures.value at c.in-empty.len_below))
     c.in_ok-put_key_value-in-empty.ensures.next
+
+pub expressions::put_expr-returns-in-Operand-clause-put : goal.expressions::put_expr-returns-in-Operand-clause-put
+expressions::put_expr-returns-in-Operand-clause-put t c =
+    rw (operand_out c.args.expr.now _ c.in-Operand.is) c.put_un_value.ensures.put
+
+pub expressions::put_expr-returns-in-Operand-clause-next : goal.expressions::put_expr-returns-in-Operand-clause-next
+expressions::put_expr-returns-in-Operand-clause-next t c =
+    rw (operand_out c.args.expr.now _ c.in-Operand.is)
+    (rw (operand_counted c.args.here.now.scope.now (un_of c.in-Operand.operand)) c.put_un_value.ensures.next)

@@ -1,23 +1,24 @@
 -- The plain form of a node, by its fields or by what its variant holds. Code that reads a tree cites these.
-use Rattle.std.proofs.Common.{◌≡◌, ◌∙◌, ap, rules, Bool, Option, Some, None, option_map}
+use Rattle.std.proofs.Common.{◌≡◌, ◌∙◌, ap, rules, [], Bool, Option, Some, None, option_map}
 use Rattle.std.specs.Global.{Vec}
 use Rattle.ns_tree.specs.Plain as p
-use Rattle.ns_tree.specs.PlainOf.{expr_of, message_of, key_expr_of, bin_of, un_of, primary_of, block_of, statements_of, statement_of, class_of, side_of}
+use Rattle.ns_tree.specs.PlainOf.{expr_of, full_expr_of, message_of, key_expr_of, bin_of, un_of, primary_of, block_of, statements_of, class_of, side_of}
 use Rattle.ns_tree.specs.PlainOf.{received, cascade_of, keys_of, opers_of, exprs_of, slots_of, bars_of, statement_list_of, members_of, class_side_of, pattern_of, clause_of}
-use Rattle.ns_tree.specs.declared.tree.Message.TheBlock as b
-use Rattle.ns_tree.specs.declared.tree.Message.TheViews as m
+use Rattle.ns_tree.specs.declared.tree.Expr.TheBlock as b
+use Rattle.ns_tree.specs.declared.tree.Expr.TheViews as m
 use Rattle.ns_tree.specs.declared.tree.What.TheBlock as c
 use Rattle.ns_tree.specs.declared.tree.What.TheViews as w
 use Rattle.ns_tree.specs.declared.tree.Named.{Named}
 use Rattle.ns_tree.specs.declared.tree.Expr.{Expr}
+use Rattle.ns_tree.specs.declared.tree.FullExpr.{FullExpr}
 use Rattle.ns_tree.specs.declared.tree.Message.{Message}
 use Rattle.ns_tree.specs.declared.tree.KeyExpr.{KeyExpr}
 use Rattle.ns_tree.specs.declared.tree.BinExpr.{BinExpr}
+use Rattle.ns_tree.specs.declared.tree.UnExpr.{UnExpr}
 use Rattle.ns_tree.specs.declared.tree.Primary.{Primary}
 use Rattle.ns_tree.specs.declared.tree.Block.{Block}
 use Rattle.ns_tree.specs.declared.tree.Slot.{Slot}
 use Rattle.ns_tree.specs.declared.tree.Statements.{Statements}
-use Rattle.ns_tree.specs.declared.tree.Statement.{Statement}
 use Rattle.ns_tree.specs.declared.tree.Class.{Class}
 use Rattle.ns_tree.specs.declared.tree.Side.{Side}
 use Rattle.ns_tree.specs.lemmas.Rows.{opers_items, keys_items, cascade_items, exprs_items, slots_items, statements_items, members_items}
@@ -25,8 +26,9 @@ use Rattle.ns_tree.specs.lemmas.Rows.{opers_items, keys_items, cascade_items, ex
 -- ---- structs
 
 -- An expression's tree is that of its setters, its first message and its cascade.
-pub expr_out : (e : Expr) → expr_of e ≡ p.expr_with (m.out-Expr e).sets.items (key_expr_of (m.out-Expr e).first) (cascade_of (m.out-Expr e).more.items)
-expr_out (b.struct-Expr sets first shape row) = search (rules, m.the_lemmas, cascade_items)
+pub full_expr_out : (e : FullExpr) →
+    full_expr_of e ≡ p.expr_with (m.out-FullExpr e).sets.items (key_expr_of (m.out-FullExpr e).first) (cascade_of (m.out-FullExpr e).more.items)
+full_expr_out (b.struct-FullExpr sets first shape row) = search (rules, m.the_lemmas, cascade_items)
 
 pub key_expr_out : (e : KeyExpr) → key_expr_of e ≡ received (m.out-KeyExpr e).receiver (keys_of (m.out-KeyExpr e).keys.items)
 key_expr_out (b.struct-KeyExpr b.KeyExpr-receiver-None' shape row) = search (rules, m.the_lemmas, keys_items)
@@ -44,9 +46,6 @@ block_out (b.struct-Block params (b.Block-slots-Some' shape row) body) = search 
 -- The tree of statements is their list, and whether a stop ends them.
 pub statements_out : (e : Statements) → statements_of e ≡ p.statements_with (statement_list_of (m.out-Statements e).list.items) (m.out-Statements e).stop
 statements_out (b.struct-Statements shape row stop) = search (rules, m.the_lemmas, statements_items)
-
-pub statement_out : (e : Statement) → statement_of e ≡ p.statement_with (m.out-Statement e).caret (expr_of (m.out-Statement e).expr)
-statement_out (b.struct-Statement caret expr) = search (rules, m.the_lemmas)
 
 -- A class's tree is that of its name and of its parts.
 pub class_out : (e : Class) → class_of e ≡ p.class_with (w.out-Class e).name (option_map pattern_of (w.out-Class e).factory) (option_map clause_of (w.out-Class e).clause) (bars_of (w.out-Class e).slots) (statements_of (w.out-Class e).body) (side_of (w.out-Class e).side) (class_side_of (w.out-Class e).class_side)
@@ -82,6 +81,13 @@ class_none e h = class_out e ∙ ap (λ o. p.class_with (w.out-Class e).name (op
 pub class_some : (e : Class) (side : Side) → (w.out-Class e).class_side ≡ Some side → class_of e ≡ p.class_with (w.out-Class e).name (option_map pattern_of (w.out-Class e).factory) (option_map clause_of (w.out-Class e).clause) (bars_of (w.out-Class e).slots) (statements_of (w.out-Class e).body) (side_of (w.out-Class e).side) (p.class_side_with (side_of side))
 class_some e side h = class_out e ∙ ap (λ o. p.class_with (w.out-Class e).name (option_map pattern_of (w.out-Class e).factory) (option_map clause_of (w.out-Class e).clause) (bars_of (w.out-Class e).slots) (statements_of (w.out-Class e).body) (side_of (w.out-Class e).side) (class_side_of o)) h
 
+-- ---- variants that stand for a node with less
+
+-- The tree of an operand alone has nothing around the operand.
+pub operand_out : (e : Expr) (un : UnExpr) → e ≡ m.Operand un →
+    expr_of e ≡ p.expr_with [] (p.sent (p.bin_with (un_of un) p.no_opers) p.no_keys) p.no_messages
+operand_out e un h = ap expr_of h
+
 -- ---- variants that hold a vector
 
 -- The tree of a keyword message is that of its keywords.
@@ -89,7 +95,7 @@ pub keywords_out : (e : Message) (v : Vec (Named × BinExpr)) → e ≡ m.Keys v
 keywords_out e v h = ap message_of h ∙ search (rules, m.the_lemmas, keys_items)
 
 -- A tuple's tree is the list of its expressions, and whether a stop ends them.
-pub tuple_out : (e : Primary) (v : Vec Expr) (stop : Bool) → e ≡ m.Tuple v stop → primary_of e ≡ p.tuple (exprs_of v.items) stop
+pub tuple_out : (e : Primary) (v : Vec Expr) (stop : Bool) → e ≡ m.Tuple stop v → primary_of e ≡ p.tuple (exprs_of v.items) stop
 tuple_out e v stop h = ap primary_of h ∙ search (rules, m.the_lemmas, exprs_items)
 
 -- ---- a block that is made

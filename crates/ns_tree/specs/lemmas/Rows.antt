@@ -3,8 +3,8 @@ use Rattle.std.proofs.Common.{◌≡◌, refl, ap}
 use Rattle.ns_tree.specs.Plain as p
 use Rattle.ns_tree.specs.PlainOf.{cascade_row, keys_row, opers_row, exprs_row, slots_row, statements_row, members_row}
 use Rattle.ns_tree.specs.PlainOf.{cascade_of, keys_of, opers_of, exprs_of, slots_of, statement_list_of, members_of}
-use Rattle.ns_tree.specs.PlainOf.{message_of, bin_of, primary_of, expr_of, init_of, statement_of, what_of}
-use Rattle.ns_tree.specs.declared.tree.Message.TheBlock as b
+use Rattle.ns_tree.specs.PlainOf.{message_of, bin_of, primary_of, expr_of, init_of, what_of}
+use Rattle.ns_tree.specs.declared.tree.Expr.TheBlock as b
 use Rattle.ns_tree.specs.declared.tree.What.TheBlock as c
 
 pub opers_items : (n : _) (row : b.Row_of-BinExpr-more-2 n) → opers_row row ≡ opers_of (b.items-the_row-BinExpr-more-2 n row)
@@ -15,9 +15,9 @@ pub keys_items : (n : _) (row : b.Row_of-Message-Keys-0-2 n) → keys_row row �
 keys_items n b.end_of-Message-Keys-0-2 = refl
 keys_items n (b.more_of-Message-Keys-0-2 {n = m} name argument rest) = ap (p.more_keys name (bin_of argument)) (keys_items m rest)
 
-pub cascade_items : (n : _) (row : b.Row_of-Expr-more-2 n) → cascade_row row ≡ cascade_of (b.items-the_row-Expr-more-2 n row)
-cascade_items n b.end_of-Expr-more-2 = refl
-cascade_items n (b.more_of-Expr-more-2 {n = m} at message rest) = ap (p.more_messages at (message_of message)) (cascade_items m rest)
+pub cascade_items : (n : _) (row : b.Row_of-FullExpr-more-2 n) → cascade_row row ≡ cascade_of (b.items-the_row-FullExpr-more-2 n row)
+cascade_items n b.end_of-FullExpr-more-2 = refl
+cascade_items n (b.more_of-FullExpr-more-2 {n = m} at message rest) = ap (p.more_messages at (message_of message)) (cascade_items m rest)
 
 pub exprs_items : (n : _) (row : b.Row_of-Expr n) → exprs_row row ≡ exprs_of (b.items-the_row-Expr n row)
 exprs_items n b.end_of-Expr = refl
@@ -29,7 +29,7 @@ slots_items n (b.more_of-Slot {n = m} access name init rest) = ap (p.more_slots 
 
 pub statements_items : (n : _) (row : b.Row_of-Statement n) → statements_row row ≡ statement_list_of (b.items-the_row-Statement n row)
 statements_items n b.end_of-Statement = refl
-statements_items n (b.more_of-Statement {n = m} statement rest) = ap (p.more_statements (statement_of statement)) (statements_items m rest)
+statements_items n (b.more_of-Statement {n = m} caret expr rest) = ap (p.more_statements (p.statement_with caret (expr_of expr))) (statements_items m rest)
 
 pub members_items : (n : _) (row : c.Row_of-Member n) → members_row row ≡ members_of (c.items-the_row-Member n row)
 members_items n c.end_of-Member = refl

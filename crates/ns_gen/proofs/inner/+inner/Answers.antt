@@ -1,30 +1,30 @@
 use Rattle.std.proofs.Common.{◌≡◌, ◌∙◌, ◌+◌, length, ap, refl, arith}
 use Rattle.ns_tree.specs.declared.tree.BinExpr.{out-BinExpr}
 use Rattle.ns_tree.specs.declared.tree.Block.{out-Block}
-use Rattle.ns_tree.specs.declared.tree.Expr.{out-Expr}
+use Rattle.ns_tree.specs.declared.tree.FullExpr.{out-FullExpr}
 use Rattle.ns_tree.specs.declared.tree.KeyExpr.{out-KeyExpr}
-use Rattle.ns_tree.specs.PlainOf.{expr_of, cascade_of, message_of, key_expr_of, keys_of, bin_of, opers_of, un_of, exprs_of, slots_of, slot_of, statements_of, statement_list_of, statement_of}
-use Rattle.ns_tree.specs.laws.Nodes.{bin_out, expr_out, statements_out, key_expr_none, key_expr_some, block_none, block_some, keywords_out, tuple_out}
+use Rattle.ns_tree.specs.PlainOf.{expr_of, cascade_of, message_of, key_expr_of, keys_of, bin_of, opers_of, un_of, exprs_of, bars_of, slots_of, slot_of, statements_of, statement_list_of, statement_of}
+use Rattle.ns_tree.specs.laws.Nodes.{bin_out, full_expr_out, operand_out, statements_out, key_expr_none, key_expr_some, block_out, block_none, block_some, keywords_out, tuple_out}
 use Rattle.ns_scope.specs.Bodies as b
 use Rattle.ns_resolved.specs.Statements.{expr_bodies, cascade_bodies, message_bodies, key_expr_bodies, keys_bodies, bin_bodies, opers_bodies, un_bodies, items_bodies, slots_bodies, slot_bodies, statements_bodies, list_bodies, statement_bodies}
 use Rattle.ns_gen_draft.specs.Standing.{standing}
 use Rattle.ns_gen_draft.specs.laws.Numbers.{behind_both, loop_number}
 use Rattle.ns_gen_bodies.specs.Coding.{with_bodies}
 use Rattle.ns_gen.proofs.Onward.{both_put, loop_put}
-use Rattle.ns_gen.proofs.Blocks.{block_put, block_number}
+use Rattle.ns_gen.proofs.Blocks.{block_put, block_number, bare_put, bare_number, operand_blocks, operand_bodies}
 use Rattle.ns_gen.proofs.inner.+inner.Goals as goal
 
-pub put_expr-returns-clause-put : goal.put_expr-returns-clause-put
-put_expr-returns-clause-put t c =
+pub put_full_expr-returns-clause-put : goal.put_full_expr-returns-clause-put
+put_full_expr-returns-clause-put t c =
     let here = standing c.args.here.now in
-    rw (expr_out c.args.expr.now)
-    (both_put (key_expr_bodies here c.args.next.now (key_expr_of (out-Expr c.args.expr.now).first)) (λ n. cascade_bodies here n (cascade_of (out-Expr c.args.expr.now).more.items)) (c.args.next.now + length (b.key_expr_blocks here.scope (key_expr_of (out-Expr c.args.expr.now).first)))
+    rw (full_expr_out c.args.expr.now)
+    (both_put (key_expr_bodies here c.args.next.now (key_expr_of (out-FullExpr c.args.expr.now).first)) (λ n. cascade_bodies here n (cascade_of (out-FullExpr c.args.expr.now).more.items)) (c.args.next.now + length (b.key_expr_blocks here.scope (key_expr_of (out-FullExpr c.args.expr.now).first)))
     c.put_key_expr.new.next c.args.output.now c.put_key_expr.new.output c.put_cascade.new.output
     c.in_ok-put_key_expr.ensures.put c.in_ok-put_key_expr.ensures.next (rw c.deref.ensures.value at c.in_ok-put_cascade.ensures.put))
 
-pub put_expr-returns-clause-next : goal.put_expr-returns-clause-next
-put_expr-returns-clause-next t c =
-    rw (expr_out c.args.expr.now)
+pub put_full_expr-returns-clause-next : goal.put_full_expr-returns-clause-next
+put_full_expr-returns-clause-next t c =
+    rw (full_expr_out c.args.expr.now)
     (behind_both _ _ c.args.next.now c.put_key_expr.new.next c.put_cascade.new.next c.in_ok-put_key_expr.ensures.next (rw c.deref.ensures.value at c.in_ok-put_cascade.ensures.next))
 
 pub put_bin-returns-clause-put : goal.put_bin-returns-clause-put
@@ -176,10 +176,37 @@ put_list-loop-statement-preserved t c =
 
 pub put_block-returns-clause-put : goal.put_block-returns-clause-put
 put_block-returns-clause-put t c =
-    block_put (standing c.args.here.now) c.args.next.now c.advance.new.number c.args.block.now c.in_ok-scope.scope c.args.output.now c.block-2.new.self c.put_inside.new.output
-    (rw c.deref.ensures.value at c.in_ok-scope.ensures) c.in_ok-block.ensures c.in_ok-advance.ensures c.in_ok-put_inside.ensures.put
+    let block = out-Block c.args.block.now in
+    rw (block_out c.args.block.now)
+    (block_put (standing c.args.here.now) c.args.next.now c.advance.new.number block.params.items (bars_of block.slots) (statements_of block.body) c.in_ok-scope.scope
+    c.args.output.now c.block-2.new.self c.put_inside.new.output (rw c.deref.ensures.value at c.in_ok-scope.ensures)
+    (rw c.deref-2.ensures.value at c.in_ok-block.ensures) c.in_ok-advance.ensures (rw (block_out c.args.block.now) at c.in_ok-put_inside.ensures.put))
 
 pub put_block-returns-clause-next : goal.put_block-returns-clause-next
 put_block-returns-clause-next t c =
-    block_number (standing c.args.here.now) c.args.next.now c.advance.new.number c.put_inside.new.next c.args.block.now c.in_ok-scope.scope
-    (rw c.deref.ensures.value at c.in_ok-scope.ensures) c.in_ok-advance.ensures c.in_ok-put_inside.ensures.next
+    let block = out-Block c.args.block.now in
+    rw (block_out c.args.block.now)
+    (block_number (standing c.args.here.now) c.args.next.now c.advance.new.number c.put_inside.new.next block.params.items (bars_of block.slots) (statements_of block.body)
+    c.in_ok-scope.scope (rw c.deref.ensures.value at c.in_ok-scope.ensures) c.in_ok-advance.ensures
+    (rw (block_out c.args.block.now) at c.in_ok-put_inside.ensures.next))
+
+pub put_bare_block-returns-clause-put : goal.put_bare_block-returns-clause-put
+put_bare_block-returns-clause-put t c =
+    bare_put (standing c.args.here.now) c.args.next.now c.advance.new.number (statements_of c.args.body.now) c.in_ok-scope.scope
+    c.args.output.now c.block.new.self c.put_statements.new.output c.in_ok-scope.ensures c.in_ok-block.ensures c.in_ok-advance.ensures
+    c.in_ok-put_statements.ensures.put
+
+pub put_bare_block-returns-clause-next : goal.put_bare_block-returns-clause-next
+put_bare_block-returns-clause-next t c =
+    bare_number (standing c.args.here.now) c.args.next.now c.advance.new.number c.put_statements.new.next (statements_of c.args.body.now) c.in_ok-scope.scope
+    c.in_ok-scope.ensures c.in_ok-advance.ensures c.in_ok-put_statements.ensures.next
+
+pub put_expr-returns-in-Operand-clause-put : goal.put_expr-returns-in-Operand-clause-put
+put_expr-returns-in-Operand-clause-put t c =
+    rw (operand_out c.args.expr.now _ c.in-Operand.is)
+    (rw (operand_bodies (standing c.args.here.now) c.args.next.now (un_of c.in-Operand.operand)) c.put_un.ensures.put)
+
+pub put_expr-returns-in-Operand-clause-next : goal.put_expr-returns-in-Operand-clause-next
+put_expr-returns-in-Operand-clause-next t c =
+    rw (operand_out c.args.expr.now _ c.in-Operand.is)
+    (rw (operand_blocks c.args.here.now.scope.now (un_of c.in-Operand.operand)) c.put_un.ensures.next)

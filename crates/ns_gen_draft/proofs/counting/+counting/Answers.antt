@@ -1,13 +1,13 @@
 use Rattle.std.proofs.Common.{arith}
 use Rattle.std.proofs.lemmas.Grind.{common_steps}
-use Rattle.ns_tree.specs.laws.Nodes.{bin_out, expr_out, statements_out, key_expr_none, key_expr_some, block_none, block_some, keywords_out, tuple_out}
+use Rattle.ns_tree.specs.laws.Nodes.{bin_out, full_expr_out, operand_out, statements_out, key_expr_none, key_expr_some, block_none, block_some, keywords_out, tuple_out}
 use Rattle.ns_gen_draft.proofs.counting.+counting.Goals as goal
 
 pub count_bin-returns : goal.count_bin-returns
 count_bin-returns t c = rw (bin_out c.args.expr.now) (grind (arith, common_steps))
 
-pub count_expr-returns : goal.count_expr-returns
-count_expr-returns t c = rw (expr_out c.args.expr.now) (grind (arith, common_steps))
+pub count_full_expr-returns : goal.count_full_expr-returns
+count_full_expr-returns t c = rw (full_expr_out c.args.expr.now) (grind (arith, common_steps))
 
 pub count_key_expr-returns-in-None : goal.count_key_expr-returns-in-None
 count_key_expr-returns-in-None t c = rw (key_expr_none c.args.expr.now c.in-None.is) (grind (arith, common_steps))
@@ -29,3 +29,6 @@ count_inside-returns-in-None t c = rw (block_none c.args.block.now c.in-None.is)
 
 pub count_inside-returns-in_ok-count_slots-in-Some : goal.count_inside-returns-in_ok-count_slots-in-Some
 count_inside-returns-in_ok-count_slots-in-Some t c = rw (block_some c.args.block.now _ c.in-Some.is) (grind (arith, common_steps))
+
+pub count_expr-returns-in-Operand : goal.count_expr-returns-in-Operand
+count_expr-returns-in-Operand t c = rw (operand_out c.args.expr.now _ c.in-Operand.is) (grind (arith, common_steps))

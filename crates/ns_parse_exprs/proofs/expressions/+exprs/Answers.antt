@@ -163,10 +163,10 @@ unfolding x.expr
 expr-returns-in_err-first t c =
     fails_on expr_of (x.expr (x.primary c.args.depth) c.args.operators) _ c.in_err-first.field-0.0 c.args.tokens.now _ c.from_residual-in_err-first.ensures (rw c.in_ok-sets.ensures (stops _ _ _ (stops _ _ _ (stops _ _ _ c.in_err-first.ensures))))
 
-pub expr-returns-in-Ok : goal.expr-returns-in-Ok
+pub expr-returns-in_ok-expr-in-Ok : goal.expr-returns-in_ok-expr-in-Ok
 unfolding x.expr
-expr-returns-in-Ok t c =
-    rw (c.in_ok-sets.ensures, c.in_ok-first.ensures, c.in-Ok.ensures) (gives (sym c.expr.ensures))
+expr-returns-in_ok-expr-in-Ok t c =
+    rw (c.in_ok-sets.ensures, c.in_ok-first.ensures, c.in-Ok.ensures) (gives (sym c.in_ok-expr-in-Ok.ensures))
 
 pub key_expr-returns-in_err-receiver : goal.key_expr-returns-in_err-receiver
 unfolding x.key_expr
@@ -223,10 +223,10 @@ unfolding x.init
 init-returns-in_err-value t c =
     fails_on init_of (x.init (x.primary c.args.depth)) _ c.in_err-value.field-0.0 c.args.tokens.now _ c.from_residual-in_err-value.ensures (rw ((sym c.sees.ensures ∙ c.if-sees.true), c.in_ok-skip.ensures) (stops _ _ _ c.in_err-value.ensures))
 
-pub init-returns-in_ok-value : goal.init-returns-in_ok-value
+pub init-returns-in_ok-fixed : goal.init-returns-in_ok-fixed
 unfolding x.init
-init-returns-in_ok-value t c =
-    rw ((sym c.sees.ensures ∙ c.if-sees.true), c.in_ok-skip.ensures, c.in_ok-value.ensures) (gives (sym c.fixed.ensures))
+init-returns-in_ok-fixed t c =
+    rw ((sym c.sees.ensures ∙ c.if-sees.true), c.in_ok-skip.ensures, c.in_ok-value.ensures) (gives (sym c.in_ok-fixed.ensures))
 
 pub init-returns-in_err-skip-2 : goal.init-returns-in_err-skip-2
 unfolding x.init
@@ -238,10 +238,10 @@ unfolding x.init
 init-returns-in_err-value-2 t c =
     fails_on init_of (x.init (x.primary c.args.depth)) _ c.in_err-value-2.field-0.0 c.args.tokens.now _ c.from_residual-in_err-value-2.ensures (rw ((sym c.sees.ensures ∙ c.if-sees.false), (sym c.sees-else-sees.ensures ∙ c.if-sees-2.true), c.in_ok-skip-2.ensures) (stops _ _ _ c.in_err-value-2.ensures))
 
-pub init-returns-in_ok-value-2 : goal.init-returns-in_ok-value-2
+pub init-returns-in_ok-mutable : goal.init-returns-in_ok-mutable
 unfolding x.init
-init-returns-in_ok-value-2 t c =
-    rw ((sym c.sees.ensures ∙ c.if-sees.false), (sym c.sees-else-sees.ensures ∙ c.if-sees-2.true), c.in_ok-skip-2.ensures, c.in_ok-value-2.ensures) (gives (sym c.mutable.ensures))
+init-returns-in_ok-mutable t c =
+    rw ((sym c.sees.ensures ∙ c.if-sees.false), (sym c.sees-else-sees.ensures ∙ c.if-sees-2.true), c.in_ok-skip-2.ensures, c.in_ok-value-2.ensures) (gives (sym c.in_ok-mutable.ensures))
 
 pub slot-returns-in_err-name : goal.slot-returns-in_err-name
 unfolding x.slot

@@ -1,13 +1,13 @@
 use Rattle.std.proofs.Common.{arith, refl}
 use Rattle.std.proofs.lemmas.Grind.{common_steps}
-use Rattle.ns_tree.specs.laws.Nodes.{bin_out, expr_out, statements_out, key_expr_none, key_expr_some, block_some, keywords_out, tuple_out}
+use Rattle.ns_tree.specs.laws.Nodes.{bin_out, full_expr_out, operand_out, statements_out, key_expr_none, key_expr_some, block_some, keywords_out, tuple_out}
 use Rattle.ns_print.proofs.expressions.+expressions.Goals as goal
 
 pub put_bin-returns : goal.put_bin-returns
 put_bin-returns t c = rw (bin_out c.args.expr.now) (grind (arith, common_steps))
 
-pub put_expr-returns : goal.put_expr-returns
-put_expr-returns t c = rw (expr_out c.args.expr.now) (grind (arith, common_steps))
+pub put_full_expr-returns : goal.put_full_expr-returns
+put_full_expr-returns t c = rw (full_expr_out c.args.expr.now) (grind (arith, common_steps))
 
 pub put_key_expr-returns-in-None : goal.put_key_expr-returns-in-None
 put_key_expr-returns-in-None t c = rw (key_expr_none c.args.expr.now c.in-None.is) (grind (arith, common_steps))
@@ -77,3 +77,6 @@ put_list-loop-statement-preserved t c = grind (arith, common_steps)
 
 pub put_list-returns : goal.put_list-returns
 put_list-returns t c = grind (arith, common_steps)
+
+pub put_expr-returns-in-Operand : goal.put_expr-returns-in-Operand
+put_expr-returns-in-Operand t c = rw (operand_out c.args.expr.now _ c.in-Operand.is) (grind (arith, common_steps))

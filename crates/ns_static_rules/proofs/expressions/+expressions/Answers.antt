@@ -1,14 +1,15 @@
 use Rattle.std.proofs.Common.{arith, refl}
 use Rattle.std.proofs.lemmas.Grind.{common_steps}
-use Rattle.ns_tree.specs.laws.Nodes.{bin_out, expr_out, statements_out, key_expr_none, key_expr_some, block_none, block_some, keywords_out, tuple_out}
-use Rattle.ns_static_rules.proofs.Inside.{block_and_inside}
+use Rattle.ns_tree.specs.PlainOf.{un_of}
+use Rattle.ns_tree.specs.laws.Nodes.{bin_out, full_expr_out, operand_out, statements_out, key_expr_none, key_expr_some, block_none, block_some, keywords_out, tuple_out}
+use Rattle.ns_static_rules.proofs.Inside.{block_and_inside, operand_faults}
 use Rattle.ns_static_rules.proofs.expressions.+expressions.Goals as goal
 
 pub bin_faults-returns : goal.bin_faults-returns
 bin_faults-returns t c = rw (bin_out c.args.expr.now) (grind (arith, common_steps))
 
-pub expr_faults-returns : goal.expr_faults-returns
-expr_faults-returns t c = rw (expr_out c.args.expr.now) (grind (arith, common_steps))
+pub full_expr_faults-returns : goal.full_expr_faults-returns
+full_expr_faults-returns t c = rw (full_expr_out c.args.expr.now) (grind (arith, common_steps))
 
 pub key_expr_faults-returns-in-None : goal.key_expr_faults-returns-in-None
 key_expr_faults-returns-in-None t c = rw (key_expr_none c.args.expr.now c.in-None.is) (grind (arith, common_steps))
@@ -87,3 +88,7 @@ list_faults-loop-statement-preserved t c = grind (arith, common_steps)
 
 pub list_faults-returns : goal.list_faults-returns
 list_faults-returns t c = grind (arith, common_steps)
+
+pub expr_faults-returns-in-Operand : goal.expr_faults-returns-in-Operand
+expr_faults-returns-in-Operand t c =
+    rw (operand_out c.args.expr.now _ c.in-Operand.is) (rw (operand_faults c.args.scope.now (un_of c.in-Operand.operand)) c.un_faults.ensures)

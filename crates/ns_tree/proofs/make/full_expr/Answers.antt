@@ -1,7 +1,7 @@
 use Rattle.std.proofs.Common.{rules}
-use Rattle.ns_tree.specs.declared.tree.Message.TheViews.{the_lemmas}
+use Rattle.ns_tree.specs.declared.tree.Expr.TheViews.{the_lemmas}
 use Rattle.ns_tree.specs.lemmas.Rows.{cascade_items}
-use Rattle.ns_tree.proofs.make.expr.Goals as goal
+use Rattle.ns_tree.proofs.make.full_expr.Goals as goal
 
 pub returns : goal.returns
 returns c = search (rules, the_lemmas, cascade_items)
