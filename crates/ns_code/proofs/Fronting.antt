@@ -1,12 +1,13 @@
 -- What is kept for the number of a selector is found for its text.
-use Rattle.std.proofs.Common.{◌≡◌, ◌⊎◌, inl, inr, ℕ, ◌+◌, ◌-◌, ◌<◌, ◌≤◌, List, [], ◌++◌, length, get_or, ap, sym, ◌∙◌, arith, Option, None, map, cond}
+use Rattle.std.proofs.Common.{◌≡◌, ◌⊎◌, inl, inr, ℕ, ◌-◌, ◌<◌, ◌≤◌, List, [], ◌∷◌, ◌++◌, length, append_assoc, get_or, ap, sym, ◌∙◌, arith, Option, None, map, cond}
 use Rattle.std.proofs.lemmas.Bool.{cases_lt, lt-ltb, le-ltb}
 use Rattle.std.proofs.lemmas.List.{get_or_past, get_or-map, length-map, map-append}
 use Rattle.std.proofs.lemmas.Option.{slice_get_past, slice_get-get_or}
 use Rattle.std.proofs.Math.ListN.{get_or-append}
 use Rattle.std.proofs.Math.Seq.{get_or-append_right}
 use Rattle.ns_code.specs.declared.program.CodeProgram.{CodeProgram}
-use Rattle.ns_code.specs.Own.{own_texts}
+use Rattle.ns_code.specs.Own.{own_text, own_texts}
+use Rattle.ns_code.specs.declared.own.Own.TheVariants.{PackageUsing, MainArgs, DoesNotUnderstand}
 use Rattle.ns_code.specs.Selector.{selector_text, own_text_at}
 use Rattle.std.specs.Option.{option_map_or}
 use Rattle.ns_code.specs.Fronts.{front_in, kept_at}
@@ -45,3 +46,15 @@ front_kept code names fronts number all same =
 
 pub fronts_both : (table names : List (List ℕ)) → map (front_in table) names ++ map (front_in table) own_texts ≡ map (front_in table) (names ++ own_texts)
 fronts_both table names = sym (map-append (front_in table) names own_texts)
+
+pub own_put : (table : List (List ℕ)) (none one two three : List (Option ℕ)) → one ≡ none ++ front_in table (own_text PackageUsing) ∷ [] →
+    two ≡ one ++ front_in table (own_text MainArgs) ∷ [] → three ≡ two ++ front_in table (own_text DoesNotUnderstand) ∷ [] →
+    three ≡ none ++ map (front_in table) own_texts
+own_put table none one two three first second third =
+    let using : Option ℕ = front_in table (own_text PackageUsing) in
+    let main : Option ℕ = front_in table (own_text MainArgs) in
+    let absent : Option ℕ = front_in table (own_text DoesNotUnderstand) in
+    third
+    ∙ (ap (λ z. z ++ absent ∷ []) (second ∙ ap (λ z. z ++ main ∷ []) first)
+    ∙ (ap (λ z. z ++ absent ∷ []) (append_assoc none (using ∷ []) (main ∷ []))
+    ∙ append_assoc none (using ∷ main ∷ []) (absent ∷ [])))

@@ -33,11 +33,11 @@ or_false false = refl
 weaker : (p q : Listed → Bool) → ((one : Listed) → p one ≡ true → q one ≡ true) → (listed : List Listed) →
     list_any p listed ≡ true → list_any q listed ≡ true
 weaker p q more [] e = e
-weaker p q more (one ∷ listed) e = by (p one) refl e
+weaker p q more (one ∷ listed) e = by (weaker p q more listed) (p one) refl e
   where
-    by : (b : Bool) → p one ≡ b → (b || list_any p listed) ≡ true → (q one || list_any q listed) ≡ true
-    by true is e = or_left (q one) (list_any q listed) (more one is)
-    by false is e = or_right (q one) (list_any q listed) (weaker p q more listed e)
+    by : (list_any p listed ≡ true → list_any q listed ≡ true) → (b : Bool) → p one ≡ b → (b || list_any p listed) ≡ true → (q one || list_any q listed) ≡ true
+    by rest true is e = or_left (q one) (list_any q listed) (more one is)
+    by rest false is e = or_right (q one) (list_any q listed) (rest e)
 
 -- ---- a search
 
@@ -56,7 +56,7 @@ is_declaration name declaration one = by (nat_eq name one.name)
     by false e = absurd (cc)
 
 not_above : (name : ℕ) (one : Listed) → name ≡ one.name → nat_le one.name name ≡ false → ⊥
-not_above name one same no = omega (arith, same, leb-false one.name name no)
+not_above name one same above = omega (arith, same, leb-false one.name name above)
 
 -- those before a place fail a test, so what passes it stands behind
 behind : (p : Listed → Bool) (listed : List Listed) (n : ℕ) → ((k : ℕ) (d : Listed) → k < n → k < length listed → p (get_or listed k d) ≡ false) →
@@ -92,7 +92,7 @@ found_under name listed behind_first under first past low cut high cut_again dec
     ap (is_declared declaration) cut_again
     ∙ weaker (is_entry name declaration) (λ one. nat_eq declaration one.declaration) (is_declaration name declaration) (take past behind_first)
     (sym (before (is_entry name declaration) behind_first past
-    (λ k d le lt. other_name name declaration (get_or behind_first k d) (λ same. let no = high.1 k d le lt in not_above name (get_or behind_first k d) same no)))
+    (λ k d le lt. other_name name declaration (get_or behind_first k d) (λ same. not_above name (get_or behind_first k d) same (high.1 k d le lt))))
     ∙ (ap (list_any (is_entry name declaration)) cut
     ∙ (sym (behind (is_entry name declaration) listed first
     (λ k d lt within. other_name name declaration (get_or listed k d)
@@ -104,11 +104,12 @@ found_under name listed behind_first under first past low cut high cut_again dec
 among_listed : (name declaration : ℕ) (names : List ℕ) → is_among name names ≡ true → is_listed name declaration (under_names declaration names) ≡ true
 among_listed name declaration [] e = e
 among_listed name declaration (one ∷ names) e =
-    rw (eq-eqb declaration declaration refl) (by (nat_eq name one) e)
+    rw (eq-eqb declaration declaration refl) (by (among_listed name declaration names) (nat_eq name one) e)
   where
-    by : (b : Bool) → (b || is_among name names) ≡ true → ((b && true) || is_listed name declaration (under_names declaration names)) ≡ true
-    by true e = refl
-    by false e = among_listed name declaration names e
+    by : (is_among name names ≡ true → is_listed name declaration (under_names declaration names) ≡ true) → (b : Bool) → (b || is_among name names) ≡ true →
+        ((b && true) || is_listed name declaration (under_names declaration names)) ≡ true
+    by rest true e = refl
+    by rest false e = rest e
 
 listed_from : (names : ClassCode → List ℕ) (start number name : ℕ) (classes : List ClassCode) (class : ClassCode) → slice_get classes number ≡ Some class →
     is_among name (names class) ≡ true → is_listed name (start + number) (all_listed names start classes) ≡ true
@@ -127,4 +128,5 @@ pub lists_all : (names : ClassCode → List ℕ) (classes : List ClassCode) (lis
     IsPermutation listed index → ListsAll names classes index
 lists_all names classes listed index all same = λ number name class is e.
     sym (list_any-IsPermutation (is_entry name number) listed index same)
-    ∙ (ap (is_listed name number) all ∙ listed_from names 0 number name classes class is e)
+    ∙ (ap (is_listed name number) all
+    ∙ (ap (λ n. is_listed name n (all_listed names 0 classes)) (omega arith) ∙ listed_from names 0 number name classes class is e))

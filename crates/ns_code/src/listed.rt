@@ -1,6 +1,6 @@
 //! Declarations under the numbers of names, in the order of these, so that those under one are found in few steps.
 
-ghost use Rattle.std.specs.Prelude.{◌≡◌, ℕ, IfOk, true, false, nat_lt, nat_le};
+ghost use Rattle.std.specs.Prelude.{◌≡◌, ◌≤◌, ℕ, length, IfOk, true, false, nat_lt, nat_le};
 ghost use Rattle.std.specs.List.Sorted.{IsNonDecreasingBy, IsPartitionPoint, IsPermutation};
 ghost use Rattle.ns_code.specs.Listed.{is_listed, is_declared};
 
@@ -73,7 +73,8 @@ fn under(entries: &[Listed], name: u32) -> &[Listed]
 /// How many stand under lower names.
 fn first_from(entries: &[Listed], name: u32) -> usize
     requires { IsNonDecreasingBy (λ (entry : Listed). entry.name) entries.now }
-    ensures { IsPartitionPoint (λ (entry : Listed). nat_lt entry.name name ≡ true)
+    ensures within { result ≤ length entries.now }
+    ensures point { IsPartitionPoint (λ (entry : Listed). nat_lt entry.name name ≡ true)
         (λ (entry : Listed). nat_lt entry.name name ≡ false) entries.now result }
 {
     entries.partition_point(|entry| entry.name < name)
@@ -82,7 +83,8 @@ fn first_from(entries: &[Listed], name: u32) -> usize
 /// How many stand under this name or lower ones.
 fn first_past(entries: &[Listed], name: u32) -> usize
     requires { IsNonDecreasingBy (λ (entry : Listed). entry.name) entries.now }
-    ensures { IsPartitionPoint (λ (entry : Listed). nat_le entry.name name ≡ true)
+    ensures within { result ≤ length entries.now }
+    ensures point { IsPartitionPoint (λ (entry : Listed). nat_le entry.name name ≡ true)
         (λ (entry : Listed). nat_le entry.name name ≡ false) entries.now result }
 {
     entries.partition_point(|entry| entry.name <= name)

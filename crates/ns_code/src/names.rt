@@ -1,7 +1,7 @@
 //! The names of code, and which of them are others with a colon behind them.
 
 ghost use Rattle.std.specs.Prelude.{◌≡◌, ◌++◌, ◌∷◌, [], length, map, IfOk, OnOk};
-ghost use Rattle.ns_code.specs.Own.{own_texts};
+ghost use Rattle.ns_code.specs.Own.{own_text, own_texts};
 ghost use Rattle.ns_code.specs.Selector.{selector_text};
 ghost use Rattle.ns_code.specs.Fronts.{front_in, kept_at};
 ghost use Rattle.ns_code.specs.declared.program.CodeProgram.{CodeProgram};
@@ -142,9 +142,17 @@ fn fronts_of(alloc: Global, table: &TextSet, names: &[Text]) -> Result<Items<Opt
 fn put_own(fronts: &mut Vec<Option<u32>>, table: &TextSet) -> Result<(), NoMemory>
     ensures { OnOk result (fronts.new.items ≡ fronts.old.items ++ map (front_in table.now) own_texts) }
 {
-    fronts.push(front_in(table, Own::PackageUsing.text()))?;
-    fronts.push(front_in(table, Own::MainArgs.text()))?;
-    fronts.push(front_in(table, Own::DoesNotUnderstand.text()))?;
+    put_front(fronts, table, Own::PackageUsing)?;
+    put_front(fronts, table, Own::MainArgs)?;
+    put_front(fronts, table, Own::DoesNotUnderstand)?;
+    Ok(())
+}
+
+/// The same for one of them.
+fn put_front(fronts: &mut Vec<Option<u32>>, table: &TextSet, own: Own) -> Result<(), NoMemory>
+    ensures { OnOk result (fronts.new.items ≡ fronts.old.items ++ front_in table.now (own_text own) ∷ []) }
+{
+    fronts.push(front_in(table, own.text()))?;
     Ok(())
 }
 

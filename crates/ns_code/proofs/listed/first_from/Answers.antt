@@ -4,7 +4,7 @@ use Rattle.std.proofs.lemmas.List.Sorted.{IsPartitionPoint-from_clause, IsPartit
 use Rattle.ns_code.specs.declared.listed.Listed.{Listed}
 use Rattle.ns_code.proofs.listed.first_from.Goals as goal
 
-pub returns : goal.returns
-returns c =
+pub returns-clause-point : goal.returns-clause-point
+returns-clause-point c =
     IsPartitionPoint-from_clause (λ (one : Listed). nat_lt one.name c.args.name) _ _ c.partition_point.ensures.partitioned
     (IsPartitionedBy-ltb (λ (one : Listed). one.name) _ c.args.name c.requires) (λ a r q k. search rules)
