@@ -31,7 +31,7 @@ use Rattle.ns_find.specs.Members.{Member, SetterOf, NamedAs, is_named, search, s
 use Rattle.ns_find.specs.Passed.{PassedHaveNone, without}
 use Rattle.ns_find.specs.laws.SoundBodies.{slots_named}
 use Rattle.ns_find.proofs.Fronts.{front_told}
-use Rattle.ns_find.proofs.Passed.{is_among, among_none, among_both}
+use Rattle.ns_find.proofs.Among.{is_among, among_none, among_both}
 
 neither : (a b : Bool) → (a || b) ≡ false → (a ≡ false) × (b ≡ false)
 neither true b e = absurd (cc)
@@ -190,7 +190,7 @@ not_told names classes name listed declaration class told there none = by (listi
 module _ (heap : Heap) (code : CodeProgram) (sel : ℕ) (kind : Sending) where
   pub passed_on_side : (passed once : List Bool) (listed : List Listed) → TellsOf side_names code.classes sel listed → once ≡ without passed listed
       → PassedHaveNone heap code Class sel kind once
-  passed_on_side passed once listed told now = λ holder lt is.
+  passed_on_side passed once listed told now = λ holder is.
       by holder (slice_get code.classes (declaration_of heap holder)) refl
       (still_passed listed passed (declaration_of heap holder) (ap (λ z. get_or z (declaration_of heap holder) false) (sym now) ∙ is)).0
     where
@@ -208,7 +208,7 @@ module _ (heap : Heap) (code : CodeProgram) (sel : ℕ) (kind : Sending) where
       → (listing.is_among sel (instance_names code.classes class) ≡ false) × HasNoSetter code sel class.slots
 
   passed_on_instances : (passed : List Bool) → Fits code → has_sound_classes code ≡ true → HasNoInstance passed → PassedHaveNone heap code Instance sel kind passed
-  passed_on_instances passed fits sound none = λ holder lt is. by holder (slice_get code.classes (declaration_of heap holder)) refl is
+  passed_on_instances passed fits sound none = λ holder is. by holder (slice_get code.classes (declaration_of heap holder)) refl is
     where
       by : (holder : ℕ) (o : Option ClassCode) → slice_get code.classes (declaration_of heap holder) ≡ o → get_or passed (declaration_of heap holder) false ≡ true
           → search code sel kind (option_map_or (side_members heap code Visible Instance holder) o []) ≡ None

@@ -2,7 +2,7 @@ pub mod RowSearch
 pub mod Colon
 pub mod Parts
 pub mod Keeping
-pub mod Passed
+mod Among
 pub mod Outward
 pub mod Staying
 pub mod Later

@@ -5,7 +5,6 @@ ghost use Rattle.ns_world.specs.Heap.{find_cell, is_class, chain_of, is_chain_st
 ghost use Rattle.ns_world.specs.Lawful.{IsLawful};
 ghost use Rattle.ns_world.specs.Layout.{declaration_of};
 ghost use Rattle.ns_find.specs.Members as spec;
-ghost use Rattle.ns_find.specs.Passed.{PassedHaveNone};
 ghost use Rattle.ns_find.specs.Find.{found_from, found_private, class_side_members, members_from, is_start, side_of, super_start};
 ghost use Rattle.ns_find.specs.declared.members.Wanted.TheVariants.{Visible};
 ghost use Rattle.ns_find.specs.declared.members.Side.TheVariants as side_is;
@@ -14,7 +13,7 @@ ghost use Rattle.ns_world.specs.declared.kernel.Start.TheVariants as start_is;
 use crate::found::{Found, Sending};
 use crate::kernel::row_named;
 use crate::members::{Asked, Side, Wanted, method, nested, slots};
-use crate::passing::stop_at_declaring;
+use crate::passing::{next_stop, stop_at_declaring};
 use ns_base::selector::Sel;
 use ns_code::class::ClassCode;
 use ns_code::program::CodeProgram;
@@ -196,7 +195,7 @@ fn factory_of(
     }
 }
 
-/// The member of that name along a chain, on which each declaration is gone through once.
+/// The member of that name along a chain, on which no class is gone through whose declaration is passed by.
 #[inline(never)]
 fn along(world: &World, code: &CodeProgram, class: u32, side: Side, asked: Asked) -> Option<Found>
     requires lawful { IsLawful world.now.world code.now }
@@ -207,84 +206,14 @@ fn along(world: &World, code: &CodeProgram, class: u32, side: Side, asked: Asked
 {
     let mut passed = [true; MOST_CLASSES];
     stop_at_declaring(code, &mut passed, side, asked.sel);
-    let mut at = class;
+    let mut at = next_stop(world, &passed, class);
     'up: while !world.is_past(at) {
-        match of_passing(world, code, &mut passed, at, side, asked) {
+        match of_holder(world, code, at, side, asked) {
             Some(found) => return Some(found),
-            None => at = world.superclass(at),
+            None => at = next_stop(world, &passed, world.superclass(at)),
         }
     }
     None
-}
-
-/// The member of that name of a holder's declaration, which isn't gone through again where it was passed.
-#[inline(never)]
-fn of_passing(
-    world: &World,
-    code: &CodeProgram,
-    passed: &mut [bool],
-    holder: u32,
-    side: Side,
-    asked: Asked,
-) -> Option<Found>
-    requires lawful { IsLawful world.now.world code.now }
-    requires holder { IsTrue (is_class (find_cell world.now.world.cells holder)) }
-    requires visible { asked.wanted ≡ Visible }
-    requires room { length passed.old ≡ 4096 }
-    requires passed { PassedHaveNone world.now.world.cells code.now side asked.sel.0 asked.kind passed.old }
-    ensures found { result ≡ spec.search code.now asked.sel.0 asked.kind (spec.holder_members world.now.world.cells code.now asked.wanted side holder) }
-    ensures room { length passed.new ≡ 4096 }
-    ensures passed { PassedHaveNone world.now.world.cells code.now side asked.sel.0 asked.kind passed.new }
-{
-    let declaration = world.declaration(holder) as usize;
-    match code.classes.as_slice().get(declaration) {
-        Some(declared) => of_declared(
-            world,
-            code,
-            passed,
-            declared,
-            declaration,
-            holder,
-            side,
-            asked,
-        ),
-        None => None,
-    }
-}
-
-/// The same, where the declaration is known.
-#[inline(never)]
-fn of_declared(
-    world: &World,
-    code: &CodeProgram,
-    passed: &mut [bool],
-    declared: &ClassCode,
-    declaration: usize,
-    holder: u32,
-    side: Side,
-    asked: Asked,
-) -> Option<Found>
-    requires lawful { IsLawful world.now.world code.now }
-    requires holder { IsTrue (is_class (find_cell world.now.world.cells holder)) }
-    requires visible { asked.wanted ≡ Visible }
-    requires declaration { declaration ≡ declaration_of world.now.world.cells holder }
-    requires declared { slice_get code.now.classes declaration ≡ Some declared.now }
-    requires room { length passed.old ≡ 4096 }
-    requires passed { PassedHaveNone world.now.world.cells code.now side asked.sel.0 asked.kind passed.old }
-    ensures found { result ≡ spec.search code.now asked.sel.0 asked.kind (spec.holder_members world.now.world.cells code.now asked.wanted side holder) }
-    ensures room { length passed.new ≡ 4096 }
-    ensures passed { PassedHaveNone world.now.world.cells code.now side asked.sel.0 asked.kind passed.new }
-{
-    if passed[declaration] {
-        return None;
-    }
-    match of_side(world, code, declared, holder, side, asked) {
-        Some(found) => Some(found),
-        None => {
-            passed[declaration] = true;
-            None
-        }
-    }
 }
 
 /// The member of that name of a holder's declaration.
