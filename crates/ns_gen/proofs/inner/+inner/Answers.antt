@@ -90,6 +90,12 @@ put_message-returns-in-Keys-clause-put t c = rw (keywords_out c.args.message.now
 pub put_message-returns-in-Keys-clause-next : goal.put_message-returns-in-Keys-clause-next
 put_message-returns-in-Keys-clause-next t c = rw (keywords_out c.args.message.now _ c.in-Keys.is) (rw c.deref.ensures.value at c.put_keys.ensures.next)
 
+pub put_primary-returns-in-BareBlock-clause-put : goal.put_primary-returns-in-BareBlock-clause-put
+put_primary-returns-in-BareBlock-clause-put t c = rw c.in-BareBlock.is (rw c.deref-in-BareBlock.ensures at c.put_bare_block.ensures.put)
+
+pub put_primary-returns-in-BareBlock-clause-next : goal.put_primary-returns-in-BareBlock-clause-next
+put_primary-returns-in-BareBlock-clause-next t c = rw c.in-BareBlock.is (rw c.deref-in-BareBlock.ensures at c.put_bare_block.ensures.next)
+
 pub put_primary-returns-in-Tuple-clause-put : goal.put_primary-returns-in-Tuple-clause-put
 put_primary-returns-in-Tuple-clause-put t c = rw (tuple_out c.args.primary.now _ _ c.in-Tuple.is) (rw c.deref-in-Tuple.ensures.value at c.put_items.ensures.put)
 
@@ -193,7 +199,7 @@ put_block-returns-clause-next t c =
 pub put_bare_block-returns-clause-put : goal.put_bare_block-returns-clause-put
 put_bare_block-returns-clause-put t c =
     bare_put (standing c.args.here.now) c.args.next.now c.advance.new.number (statements_of c.args.body.now) c.in_ok-scope.scope
-    c.args.output.now c.block.new.self c.put_statements.new.output c.in_ok-scope.ensures c.in_ok-block.ensures c.in_ok-advance.ensures
+    c.args.output.now c.block-2.new.self c.put_statements.new.output c.in_ok-scope.ensures c.in_ok-block.ensures c.in_ok-advance.ensures
     c.in_ok-put_statements.ensures.put
 
 pub put_bare_block-returns-clause-next : goal.put_bare_block-returns-clause-next
