@@ -9,6 +9,8 @@ pub mod Members
 pub mod Begun
 pub mod IntegerSends
 pub mod ArraySends
+pub mod Spelled
+pub mod TextSends
 pub mod Privately
 pub mod BooleanSends
 pub mod Heads

@@ -17,4 +17,5 @@ pub mod private;
 mod receiving;
 mod rows;
 mod slots;
+pub mod texts;
 pub mod values;

@@ -1,11 +1,14 @@
 -- Moves of a machine one after another, with steps left.
-use Rattle.std.proofs.Common.{◌≡◌, ℕ, ◌-◌, ◌<◌, ◌≤◌, refl, ap, sym, subst, arith, false}
+use Rattle.std.proofs.Common.{◌≡◌, ℕ, ◌-◌, ◌<◌, ◌≤◌, List, [], ◌∷◌, refl, ap, sym, subst, arith, true, false}
+use Rattle.std.proofs.lemmas.Bool.{eqb-true}
 use Rattle.ns_code.specs.declared.program.CodeProgram.{CodeProgram}
 use Rattle.ns_facets.specs.declared.row.Grants.{Grants}
 use Rattle.ns_moves.specs.Falling.{run_left, MovesLower}
 use Rattle.ns_moves.specs.State.{State, world_of}
 use Rattle.ns_moves.specs.Turn.{is_still}
 use Rattle.ns_machine_plan.specs.declared.plan.Plan.{Plan}
+use Rattle.ns_machine_frames.specs.declared.frame.Frame.{Frame}
+use Rattle.ns_machine_frames.specs.declared.frame.Frame.TheVariants.{Running, Looping}
 use Rattle.ns_machine_frames.specs.declared.frame.Pending.{Pending}
 use Rattle.ns_machine_frames.specs.declared.frame.Pending.TheVariants as pending
 use Rattle.ns_machine_frames.specs.declared.registers.Registers.{Registers}
@@ -16,9 +19,11 @@ use Rattle.ns_machine_core.specs.declared.state.Next.{Next}
 use Rattle.ns_machine_core.specs.declared.state.Next.TheVariants.{On, Waits, Ended}
 use Rattle.ns_machine_core.specs.Shown.{phase_shown, progress_in, shown}
 use Rattle.ns_machine_core.specs.Ready.{MakesMove, MovesKeepReady}
+use Rattle.ns_machine_core.specs.Straight.{TopRunsBody}
 use Rattle.ns_machine_turns.specs.Turning.{steps_left, ChargesAtMost, RunsBy, IsTurning, GoesAlong, HasGone, HasGoneOnce, MovesGoAlong, MovesChargeOne}
+use Rattle.ns_machine_turns.specs.declared.way.Way.{Way}
 use Rattle.ns_machine_turns.specs.declared.way.Way.TheVariants as way
-use Rattle.ns_machine_turns.specs.Ways.{HasLed, way_of}
+use Rattle.ns_machine_turns.specs.Ways.{HasLed, is_on_top, way_of}
 use Rattle.ns_machine_turns.proofs.Turned.{Known, runs_on, turning_on, counted, left_is, since_begun}
 
 -- what is known of moves of a machine
@@ -144,14 +149,21 @@ way_led code plan sends left rest old now new from (Waits at) some on few gone =
 way_led code plan sends left rest old now new from Ended some on few gone = record { gone = gone; few = tt }
 
 -- So many are left where moves have led that charged no more than two, from a machine where others had led.
-pub turned_led : (code : CodeProgram) (plan : Plan) (sends : OwnSends) (left rest : ℕ) (old now mid new : Core) (from here next : Next)
+pub turned_led : (code : CodeProgram) (plan : Plan) (sends : OwnSends) (left rest : ℕ) (old now mid new : Core) (from here next : Next) (to : Way)
     → GoesAlong code plan sends left old from now here → is_still (shown code old from) ≡ false → mid ≡ now
     → rest ≤ left - (now.run.world.world.steps - old.run.world.world.steps) → ChargesAtMost 2 mid new → HasGone code plan sends rest mid here new next
-    → HasLed code plan sends left old from new (way_of next rest)
-turned_led code plan sends left rest old now mid new from here next along goes same some few gone =
-    way_led code plan sends left rest old now new from next some along.onward (subst (λ (core : Core). ChargesAtMost 2 core new) same few)
+    → way_of next rest ≡ to → HasLed code plan sends left old from new to
+turned_led code plan sends left rest old now mid new from here next to along goes same some few gone is =
+    subst (λ (way : Way). HasLed code plan sends left old from new way) is
+    (way_led code plan sends left rest old now new from next some along.onward (subst (λ (core : Core). ChargesAtMost 2 core new) same few)
     (gone_far code plan sends left rest old now new from here next some along goes
-    (subst (λ (core : Core). HasGone code plan sends rest core here new next) same gone))
+    (subst (λ (core : Core). HasGone code plan sends rest core here new next) same gone)))
+
+-- Where the topmost frame is told to be one of that body, it is.
+pub on_top : (body : ℕ) (frames : List Frame) → is_on_top body frames ≡ true → TopRunsBody body frames
+on_top body [] is = absurd (cc)
+on_top body (Running frame ∷ frames) is = eqb-true frame.activation.body body is
+on_top body (Looping frame ∷ frames) is = absurd (cc)
 
 -- Where they have led on, less is left to be done.
 pub turned_falls : (code : CodeProgram) (now mid new : Core) (here next : Next) (rest sure : ℕ) (to : Registers) → mid ≡ now → way_of next rest ≡ way.On to sure

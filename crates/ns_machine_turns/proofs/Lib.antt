@@ -8,4 +8,5 @@ pub mod Passed
 pub mod Untouched
 pub mod Rowed
 pub mod Looped
+pub mod OnTurn
 pub mod Repeated

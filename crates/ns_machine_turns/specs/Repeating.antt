@@ -10,8 +10,15 @@ use Rattle.ns_machine_frames.specs.declared.frame.Frame.TheVariants.{Running, Lo
 use Rattle.ns_machine_frames.specs.declared.frame.Leaving.{Leaving}
 use Rattle.ns_machine_frames.specs.declared.frame.Leaving.TheVariants.{Method, Body, Clause, Part}
 use Rattle.ns_machine_frames.specs.declared.registers.Registers.{Registers}
+use Rattle.ns_machine_plan.specs.declared.packed.Packed.{Packed}
+use Rattle.ns_machine_plan.specs.declared.packed.Packed.TheVariants as packed
 use Rattle.ns_machine_core.specs.declared.state.Core.{Core}
 use Rattle.ns_machine_core.specs.Moving.{IsNextStep}
+
+-- whether a packed step is the return from a body
+abbrev pub is_return : Packed → Bool
+is_return packed.Return = true
+is_return other = false
 
 -- whether the end of a frame gives the value of a block to what stands below
 abbrev pub ends_body : Leaving → Bool

@@ -1,6 +1,8 @@
 -- Where moves have led, with the steps that are left.
-use Rattle.std.specs.Prelude.{ℕ, ◌-◌, ◌≤◌}
+use Rattle.std.specs.Prelude.{ℕ, ◌-◌, ◌≤◌, ◌==◌, List, [], ◌∷◌, Bool, false}
 use Rattle.ns_code.specs.declared.program.CodeProgram.{CodeProgram}
+use Rattle.ns_machine_frames.specs.declared.frame.Frame.{Frame}
+use Rattle.ns_machine_frames.specs.declared.frame.Frame.TheVariants.{Running, Looping}
 use Rattle.ns_machine_plan.specs.declared.plan.Plan.{Plan}
 use Rattle.ns_machine_core.specs.declared.own.OwnSends.{OwnSends}
 use Rattle.ns_machine_core.specs.declared.state.Core.{Core}
@@ -9,6 +11,12 @@ use Rattle.ns_machine_core.specs.declared.state.Next.TheVariants as next
 use Rattle.ns_machine_turns.specs.declared.way.Way.{Way}
 use Rattle.ns_machine_turns.specs.declared.way.Way.TheVariants.{On, Waits, Ended}
 use Rattle.ns_machine_turns.specs.Turning.{HasGone}
+
+-- whether the topmost frame is one of that body
+abbrev pub is_on_top : ℕ → List Frame → Bool
+is_on_top body [] = false
+is_on_top body (Running frame ∷ frames) = frame.activation.body == body
+is_on_top body (Looping frame ∷ frames) = false
 
 -- where that leads, with so many steps but two left
 abbrev pub way_of : Next → ℕ → Way

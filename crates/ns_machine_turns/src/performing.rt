@@ -33,6 +33,7 @@ use ns_machine_quick::booleans::send_boolean;
 use ns_machine_quick::giving::send;
 use ns_machine_quick::integers::send_integer;
 use ns_machine_quick::private::send_private;
+use ns_machine_quick::texts::send_text;
 use ns_machine_returns::answering::{return_self, return_value};
 use ns_machine_returns::unwinding::return_home;
 use ns_world::kernel_parts::{DataRow, IntRow, KMethod};
@@ -159,6 +160,28 @@ fn send_to_array(
         (slice_get core.old.places send.now.place) core.old at core.new result }
 {
     match send_array(
+        code, core, at, send.sel, send.argc, send.kind, send.place, row,
+    ) {
+        Some(to) => Led::Charged(to),
+        None => send_to_text(code, core, at, send, row),
+    }
+}
+
+/// The same where it is no Array: by the row of String that has that selector.
+#[inline(always)]
+fn send_to_text(
+    code: &CodeProgram,
+    core: &mut Core,
+    at: Registers,
+    send: &ValueSend,
+    row: DataRow,
+) -> Led
+    requires can { CanDo code.now core.old at (send_instr send.now.kind send.now.sel send.now.argc) }
+    requires row { array_row_of_send code.now send.now.sel ≡ Some row }
+    ensures { LeadsOrChangesNothing code.now (send_instr send.now.kind send.now.sel send.now.argc)
+        (slice_get core.old.places send.now.place) core.old at core.new result }
+{
+    match send_text(
         code, core, at, send.sel, send.argc, send.kind, send.place, row,
     ) {
         Some(to) => Led::Charged(to),

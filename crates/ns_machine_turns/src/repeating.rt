@@ -1,8 +1,6 @@
 //! Turns of `to:do:` that follow one another: the end of a block that it evaluates, with the method's next action.
 
-ghost use Rattle.std.specs.Prelude.{◌≡◌, ◌≤◌, true};
-ghost use Rattle.ns_machine_plan.specs.declared.step.Step.TheVariants.{Return};
-ghost use Rattle.ns_machine_plan.specs.Packed.{step_in};
+ghost use Rattle.std.specs.Prelude.{◌≡◌, ◌≤◌, ◌&&◌};
 ghost use Rattle.ns_machine_core.specs.declared.state.Next.TheVariants.{On};
 ghost use Rattle.ns_machine_turns.specs.Looping.{HasActed};
 ghost use Rattle.ns_machine_turns.specs.Repeating as spec;
@@ -27,8 +25,7 @@ use ns_world::kernel_parts::KMethod;
 /// Whether a step ends a block that `to:do:` evaluates.
 #[inline(always)]
 pub fn ends_turn(stack: &Stack, step: KeptStep<'_>) -> bool
-    ensures returns { result ≡ true → step_in step.entry ≡ Return }
-    ensures turn { result ≡ true → spec.is_turn stack.now.frames.items ≡ true }
+    ensures { result ≡ (spec.is_return step.entry.packed.now && spec.is_turn stack.now.frames.items) }
 {
     match step.packed {
         Packed::Return => is_turn(stack),

@@ -1,6 +1,6 @@
 //! Turns: so many moves as so many steps allow.
 
-ghost use Rattle.std.specs.Prelude.{◌≡◌, ◌-◌, ◌<◌, ◌≤◌, length, true, false};
+ghost use Rattle.std.specs.Prelude.{◌≡◌, ◌-◌, ◌<◌, ◌≤◌, length, false};
 ghost use Rattle.ns_code.specs.declared.program.CodeProgram.{CodeProgram};
 ghost use Rattle.ns_facets.specs.declared.row.Grants.{Grants};
 ghost use Rattle.ns_moves.specs.Turn.{is_still, Turns};
@@ -236,7 +236,7 @@ fn go_straight(
 #[inline(always)]
 fn is_on_top(stack: &Stack, body: u32) -> bool
     requires { 0 < length stack.now.frames.items }
-    ensures { result ≡ true → TopRunsBody body stack.now.frames.items }
+    ensures { result ≡ spec.is_on_top body stack.now.frames.items }
 {
     match *stack.topmost() {
         Frame::Running(frame) => frame.activation.body == body,

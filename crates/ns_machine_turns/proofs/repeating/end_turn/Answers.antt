@@ -1,4 +1,5 @@
-use Rattle.ns_machine_turns.proofs.Repeated.{HasLeft, loop_can_act, loops_left, some_depth, some_frames, turn_acts, turn_of}
+use Rattle.ns_machine_turns.proofs.OnTurn.{some_depth, some_frames, turn_of}
+use Rattle.ns_machine_turns.proofs.Repeated.{HasLeft, loop_can_act, loops_left, turn_acts}
 use Rattle.ns_machine_turns.proofs.repeating.end_turn.Goals as goal
 
 pub part_ended-requires : goal.part_ended-requires

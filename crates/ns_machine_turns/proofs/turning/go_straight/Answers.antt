@@ -2,10 +2,10 @@ use Rattle.std.proofs.Common.{◌-◌, ◌<◌, ◌∙◌, refl, arith, sym, sub
 use Rattle.ns_machine_frames.specs.declared.registers.Registers.{Registers}
 use Rattle.ns_machine_core.specs.declared.state.Next.TheVariants.{On}
 use Rattle.ns_machine_turns.specs.Turning.{HasGone, RunsBy}
-use Rattle.ns_machine_turns.specs.Ways.{HasLed, way_of}
+use Rattle.ns_machine_turns.specs.Ways.{HasLed}
 use Rattle.ns_machine_turns.specs.declared.way.Way.{Way}
 use Rattle.ns_machine_turns.specs.declared.way.Way.TheVariants as way
-use Rattle.ns_machine_turns.proofs.Along.{none_gone, body_gone, body_falls, turned_falls, turned_led, way_led}
+use Rattle.ns_machine_turns.proofs.Along.{none_gone, body_gone, body_falls, on_top, turned_falls, turned_led, way_led}
 use Rattle.ns_machine_turns.proofs.Untouched.{untouched_along, untouched_far, untouched_steps}
 use Rattle.ns_machine_turns.proofs.Fetched.{body_has_step, few_steps, stepped_back}
 use Rattle.ns_machine_turns.proofs.turning.go_straight.Goals as goal
@@ -99,33 +99,21 @@ straight-preserved-in-Charged c =
 
 pub returns-then-sure-eq0 : goal.returns-then-sure-eq0
 returns-then-sure-eq0 c =
-    let led : HasLed c.args.code.now c.args.plan.now c.args.own c.args.left c.args.core.now (On c.args.at) c.turn_over.new.core
-    (way_of c.turn_over.result c.straight.rest) =
     turned_led c.args.code.now c.args.plan.now c.args.own c.args.left c.straight.rest c.args.core.now c.straight.core c.go_quickly.new.core
-    c.turn_over.new.core (On c.args.at) (On c.straight.here) c.turn_over.result c.straight.invariant.along refl c.in-Turns.ensures.1
-    c.straight.invariant.rest c.turn_over.ensures.few c.turn_over.ensures.gone in
-    subst (λ (way : Way). HasLed c.args.code.now c.args.plan.now c.args.own c.args.left c.args.core.now (On c.args.at) c.turn_over.new.core way)
-    (sym c.way_of-way.ensures ∙ c.in-On-way.is) led
+    c.turn_over.new.core (On c.args.at) (On c.straight.here) c.turn_over.result (way.On c.in-On-way.to c.in-On-way.sure) c.straight.invariant.along refl
+    c.in-Turns.ensures.1 c.straight.invariant.rest c.turn_over.ensures.few c.turn_over.ensures.gone (sym c.way_of-way.ensures ∙ c.in-On-way.is)
 
 pub returns-then-not-is_on_top : goal.returns-then-not-is_on_top
 returns-then-not-is_on_top c =
-    let led : HasLed c.args.code.now c.args.plan.now c.args.own c.args.left c.args.core.now (On c.args.at) c.turn_over.new.core
-    (way_of c.turn_over.result c.straight.rest) =
     turned_led c.args.code.now c.args.plan.now c.args.own c.args.left c.straight.rest c.args.core.now c.straight.core c.go_quickly.new.core
-    c.turn_over.new.core (On c.args.at) (On c.straight.here) c.turn_over.result c.straight.invariant.along refl c.in-Turns.ensures.1
-    c.straight.invariant.rest c.turn_over.ensures.few c.turn_over.ensures.gone in
-    subst (λ (way : Way). HasLed c.args.code.now c.args.plan.now c.args.own c.args.left c.args.core.now (On c.args.at) c.turn_over.new.core way)
-    (sym c.way_of-way.ensures ∙ c.in-On-way.is) led
+    c.turn_over.new.core (On c.args.at) (On c.straight.here) c.turn_over.result (way.On c.in-On-way.to c.in-On-way.sure) c.straight.invariant.along refl
+    c.in-Turns.ensures.1 c.straight.invariant.rest c.turn_over.ensures.few c.turn_over.ensures.gone (sym c.way_of-way.ensures ∙ c.in-On-way.is)
 
 pub returns-in-Waits : goal.returns-in-Waits
 returns-in-Waits c =
-    let led : HasLed c.args.code.now c.args.plan.now c.args.own c.args.left c.args.core.now (On c.args.at) c.turn_over.new.core
-    (way_of c.turn_over.result c.straight.rest) =
     turned_led c.args.code.now c.args.plan.now c.args.own c.args.left c.straight.rest c.args.core.now c.straight.core c.go_quickly.new.core
-    c.turn_over.new.core (On c.args.at) (On c.straight.here) c.turn_over.result c.straight.invariant.along refl c.in-Turns.ensures.1
-    c.straight.invariant.rest c.turn_over.ensures.few c.turn_over.ensures.gone in
-    subst (λ (way : Way). HasLed c.args.code.now c.args.plan.now c.args.own c.args.left c.args.core.now (On c.args.at) c.turn_over.new.core way)
-    (sym c.way_of-way.ensures) led
+    c.turn_over.new.core (On c.args.at) (On c.straight.here) c.turn_over.result c.way_of-way.result c.straight.invariant.along refl
+    c.in-Turns.ensures.1 c.straight.invariant.rest c.turn_over.ensures.few c.turn_over.ensures.gone (sym c.way_of-way.ensures)
 
 pub straight-smaller : goal.straight-smaller
 straight-smaller c =
@@ -134,20 +122,16 @@ straight-smaller c =
 
 pub straight-preserved : goal.straight-preserved
 straight-preserved c =
-    let led : HasLed c.args.code.now c.args.plan.now c.args.own c.args.left c.args.core.now (On c.args.at) c.turn_over.new.core
-    (way_of c.turn_over.result c.straight.rest) =
-    turned_led c.args.code.now c.args.plan.now c.args.own c.args.left c.straight.rest c.args.core.now c.straight.core c.go_quickly.new.core
-    c.turn_over.new.core (On c.args.at) (On c.straight.here) c.turn_over.result c.straight.invariant.along refl c.in-Turns.ensures.1
-    c.straight.invariant.rest c.turn_over.ensures.few c.turn_over.ensures.gone in
     let on : HasLed c.args.code.now c.args.plan.now c.args.own c.args.left c.args.core.now (On c.args.at) c.turn_over.new.core
     (way.On c.in-On-way.to c.in-On-way.sure) =
-    subst (λ (way : Way). HasLed c.args.code.now c.args.plan.now c.args.own c.args.left c.args.core.now (On c.args.at) c.turn_over.new.core way)
-    (sym c.way_of-way.ensures ∙ c.in-On-way.is) led in
+    turned_led c.args.code.now c.args.plan.now c.args.own c.args.left c.straight.rest c.args.core.now c.straight.core c.go_quickly.new.core
+    c.turn_over.new.core (On c.args.at) (On c.straight.here) c.turn_over.result (way.On c.in-On-way.to c.in-On-way.sure) c.straight.invariant.along refl
+    c.in-Turns.ensures.1 c.straight.invariant.rest c.turn_over.ensures.few c.turn_over.ensures.gone (sym c.way_of-way.ensures ∙ c.in-On-way.is) in
     record {
       along = on.gone.along;
       rest = on.few;
       some = omega (arith, c.if-sure-eq0.false);
-      runs = c.is_on_top.ensures c.if-not-is_on_top.false;
+      runs = on_top c.args.body c.turn_over.new.core.stack.frames.items (sym c.is_on_top.ensures ∙ c.if-not-is_on_top.false);
     }
 
 -- ---- one move more
