@@ -71,38 +71,6 @@ fn send_operands(
     requires row { row_of_send code.now sel ≡ Some row }
     ensures { ToTopOrNothing code.now core.old at sel argc place kind core.new result }
 {
-    let above = Registers {
-        top: at.top - u32::from(argc),
-        ..at
-    };
-    let (met, _below) = core.stack.pop(above);
-    if !is_text(&core.run.world, met) {
-        return None;
-    }
-    send_apart(
-        code, core, at.next, at.top, at.base, sel, argc, place, kind, row,
-    )
-}
-
-/// The same in code of its own, so that where no String is met that is all that is asked. The registers are handed over one by one.
-#[inline(never)]
-fn send_apart(
-    code: &CodeProgram,
-    core: &mut Core,
-    next: u32,
-    top: u32,
-    base: u32,
-    sel: Sel,
-    argc: u8,
-    place: u32,
-    kind: Sending,
-    row: DataRow,
-) -> Option<Registers>
-    requires operands { SendsOperands code.now core.old (record { next = next; top = top; base = base }) sel argc (argc + 1) }
-    requires row { row_of_send code.now sel ≡ Some row }
-    ensures { ToTopOrNothing code.now core.old (record { next = next; top = top; base = base }) sel argc place kind core.new result }
-{
-    let at = Registers { next, top, base };
     let first = at.top - u32::from(argc);
     let above = Registers { top: first, ..at };
     let (receiver, below) = core.stack.pop(above);

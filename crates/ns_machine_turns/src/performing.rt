@@ -167,7 +167,7 @@ fn send_to_array(
     }
 }
 
-/// The same where it is no Array: by the row of String that has that selector.
+/// The same to what is no Array: told again, case by case, as by `send_otherwise`.
 #[inline(always)]
 fn send_to_text(
     code: &CodeProgram,
@@ -181,11 +181,38 @@ fn send_to_text(
     ensures { LeadsOrChangesNothing code.now (send_instr send.now.kind send.now.sel send.now.argc)
         (slice_get core.old.places send.now.place) core.old at core.new result }
 {
+    match send_text_apart(code, core, at.next, at.top, at.base, send, row) {
+        Led::Straight(to) => Led::Straight(to),
+        Led::Charged(to) => Led::Charged(to),
+        Led::On(to) => Led::On(to),
+        Led::Answered(to) => Led::Answered(to),
+        Led::Nowhere => Led::Nowhere,
+    }
+}
+
+/// Sends by the row of String that has that selector, or by what is found, in code of its own.
+#[inline(never)]
+fn send_text_apart(
+    code: &CodeProgram,
+    core: &mut Core,
+    next: u32,
+    top: u32,
+    base: u32,
+    send: &ValueSend,
+    row: DataRow,
+) -> Led
+    requires can { CanDo code.now core.old (record { next = next; top = top; base = base })
+        (send_instr send.now.kind send.now.sel send.now.argc) }
+    requires row { array_row_of_send code.now send.now.sel ≡ Some row }
+    ensures { LeadsOrChangesNothing code.now (send_instr send.now.kind send.now.sel send.now.argc)
+        (slice_get core.old.places send.now.place) core.old (record { next = next; top = top; base = base }) core.new result }
+{
+    let at = Registers { next, top, base };
     match send_text(
         code, core, at, send.sel, send.argc, send.kind, send.place, row,
     ) {
         Some(to) => Led::Charged(to),
-        None => send_otherwise(code, core, at, send),
+        None => send_apart(code, core, next, top, base, send),
     }
 }
 
