@@ -90,7 +90,10 @@ impl Session {
         let member = Member::new(self.alloc, application, grants, limits)?;
         match self.members.push(member) {
             Ok(()) => Ok(number as u32),
-            Err(_) => Err(AddFault::Memory),
+            Err(refused) => {
+                drop(refused);
+                Err(AddFault::Memory)
+            }
         }
     }
 
