@@ -1,10 +1,10 @@
 //! What calls answer and refuse, and what they tell of one that isn't there.
 
-use crate::troupe::{GRANTED, LIMITS, code};
 use ns_actors::fault::{AddFault, PostFault, TurnFault};
 use ns_actors::letter::HOST;
 use ns_actors::turn::{ActorTurn, Stop};
 use ns_actors_calls::actors::Actors;
+use ns_actors_setting::started::{add, with_actors};
 use ns_facets::board::Plain;
 use ns_world::ending::Ending;
 use std::alloc::Global;
@@ -46,18 +46,20 @@ const TURNS: &[&[Row]] = &[
 
 #[test]
 fn turns_answer_so(rt: HostRuntime) {
-    assert!(rt; TURNS.iter().all(|rows| answer_so(rt.alloc(), rows)));
+    assert!(rt; all_answer_so(rt.alloc()));
 }
 
-/// Whether the turns of a new actor have these answers.
-fn answer_so(alloc: Global, rows: &[Row]) -> bool {
-    match some(alloc, 1) {
-        Some(mut actors) => all_answer_so(&mut actors, rows),
-        None => false,
+fn all_answer_so(alloc: Global) -> bool {
+    for rows in TURNS {
+        if !with_actors(alloc, &[SOURCE], |actors| answer_so(actors, rows)) {
+            return false;
+        }
     }
+    true
 }
 
-fn all_answer_so(actors: &mut Actors, rows: &[Row]) -> bool {
+/// Whether the turns of an actor have these answers.
+fn answer_so(actors: &mut Actors, rows: &[Row]) -> bool {
     for row in rows {
         if !answers_so(actors, *row) {
             return false;
@@ -92,35 +94,26 @@ fn told(turn: ActorTurn) -> &'static str {
 
 #[test]
 fn the_seventeenth_actor_is_refused(rt: HostRuntime) {
-    assert!(rt; sixteen_and_no_more(rt.alloc()));
+    let alloc = rt.alloc();
+    assert!(rt; with_actors(alloc, &[SOURCE; 16], |actors| takes_no_more(alloc, actors)));
 }
 
-fn sixteen_and_no_more(alloc: Global) -> bool {
-    match some(alloc, 16) {
-        Some(mut actors) => {
-            actors.count() == 16
-                && matches!(add(alloc, &mut actors), Some(Err(AddFault::Full)))
-                && actors.count() == 16
-        }
-        None => false,
-    }
+fn takes_no_more(alloc: Global, actors: &mut Actors) -> bool {
+    actors.count() == 16
+        && matches!(add(alloc, actors, SOURCE), Some(Err(AddFault::Full)))
+        && actors.count() == 16
 }
 
 #[test]
 fn letters_need_a_receiver_and_one_argument(rt: HostRuntime) {
-    assert!(rt; posts_are_refused(rt.alloc()));
+    assert!(rt; with_actors(rt.alloc(), &[SOURCE; 2], takes_one_letter));
 }
 
-fn posts_are_refused(alloc: Global) -> bool {
-    match some(alloc, 2) {
-        Some(mut actors) => {
-            refuses(&mut actors)
-                && actors.post(1, b"+", Plain::True).is_ok()
-                && has_letters(&actors, 0, 0)
-                && has_letters(&actors, 1, 1)
-        }
-        None => false,
-    }
+fn takes_one_letter(actors: &mut Actors) -> bool {
+    refuses(actors)
+        && actors.post(1, b"+", Plain::True).is_ok()
+        && has_letters(actors, 0, 0)
+        && has_letters(actors, 1, 1)
 }
 
 fn refuses(actors: &mut Actors) -> bool {
@@ -152,20 +145,16 @@ fn has_letters(actors: &Actors, number: u32, count: usize) -> bool {
 
 #[test]
 fn nothing_is_told_of_nobody(rt: HostRuntime) {
-    assert!(rt; is_nobody(rt.alloc()));
+    let alloc = rt.alloc();
+    assert!(rt; with_actors(alloc, &[SOURCE; 2], |actors| tells_of_two(alloc, actors)));
 }
 
-fn is_nobody(alloc: Global) -> bool {
-    match some(alloc, 2) {
-        Some(mut actors) => {
-            matches!(actors.turn(9, 1), Err(TurnFault::NoSuch))
-                && is_unknown(alloc, &actors, 2)
-                && is_unknown(alloc, &actors, HOST)
-                && actors.posted(2).is_none()
-                && actors.posted(HOST).is_some()
-        }
-        None => false,
-    }
+fn tells_of_two(alloc: Global, actors: &mut Actors) -> bool {
+    matches!(actors.turn(9, 1), Err(TurnFault::NoSuch))
+        && is_unknown(alloc, actors, 2)
+        && is_unknown(alloc, actors, HOST)
+        && actors.posted(2).is_none()
+        && actors.posted(HOST).is_some()
 }
 
 /// Whether there is no actor of that number.
@@ -175,24 +164,4 @@ fn is_unknown(alloc: Global, actors: &Actors, number: u32) -> bool {
         && actors.transcript(number).is_none()
         && actors.stopped(number).is_none()
         && actors.report(alloc, number, &[]) == Ok(None)
-}
-
-/// So many actors of the source, started.
-fn some(alloc: Global, count: u32) -> Option<Actors> {
-    let mut actors = Actors::new(alloc);
-    for number in 0..count {
-        match add(alloc, &mut actors)? {
-            Ok(is) if is == number => {}
-            _ => return None,
-        }
-    }
-    Some(actors)
-}
-
-fn add(alloc: Global, actors: &mut Actors) -> Option<Result<u32, AddFault>> {
-    let code = code(alloc, SOURCE)?;
-    if !LIMITS.are_in_range() {
-        return None;
-    }
-    Some(actors.add(code, GRANTED, LIMITS))
 }

@@ -1,11 +1,11 @@
 //! Random schedules of letters and turns: each letter comes once and in order, and each actor stands where it stands alone.
 
-use crate::alone::stands_alone;
-use crate::troupe::{COUNT, codes, troupe};
+use crate::troupe::{COUNT, SOURCES};
 use ns_actors::letter::{HOST, Letter};
 use ns_actors_calls::actors::Actors;
+use ns_actors_setting::alone::stands_alone;
+use ns_actors_setting::started::with_actors;
 use ns_facets::board::Plain;
-use ns_verify::verify::Verified;
 use rand_pcg::Pcg32;
 use rand_pcg::rand_core::Rng;
 use std::alloc::Global;
@@ -17,23 +17,24 @@ fn schedules_keep_to_letters(rt: HostRuntime) {
 
 /// Whether actors keep to their letters under each of 300 random schedules.
 fn all_keep_to_letters(alloc: Global) -> bool {
-    match codes(alloc) {
-        Some(codes) => (0..300).all(|seed| keep_to_letters(alloc, seed, codes.as_slice())),
-        None => false,
+    for seed in 0..300 {
+        if !with_actors(
+            alloc,
+            &SOURCES,
+            |actors| keep_to_letters(alloc, actors, seed),
+        ) {
+            return false;
+        }
     }
+    true
 }
 
 /// Whether actors keep to their letters after a random schedule, and again when all have come to rest.
-fn keep_to_letters(alloc: Global, seed: u64, codes: &[Verified]) -> bool {
-    match troupe(alloc, codes) {
-        Some(mut actors) => {
-            play(&mut actors, seed);
-            let midway = agree(alloc, &actors, codes);
-            come_to_rest(&mut actors);
-            midway && actors.at_rest() && agree(alloc, &actors, codes)
-        }
-        None => false,
-    }
+fn keep_to_letters(alloc: Global, actors: &mut Actors, seed: u64) -> bool {
+    play(actors, seed);
+    let midway = agree(alloc, actors);
+    come_to_rest(actors);
+    midway && actors.at_rest() && agree(alloc, actors)
 }
 
 /// Sixty random calls: a letter of the host to one of the actors, or a turn of one, of up to 63 steps.
@@ -74,10 +75,10 @@ fn come_to_rest(actors: &mut Actors) {
 }
 
 /// Whether all letters have come as they were posted, and each actor stands where it stands alone.
-fn agree(alloc: Global, actors: &Actors, codes: &[Verified]) -> bool {
+fn agree(alloc: Global, actors: &Actors) -> bool {
     comes_to_all(alloc, actors, HOST)
-        && (0..).zip(codes).all(|(number, code)| {
-            comes_to_all(alloc, actors, number) && stands_alone(alloc, actors, number, code)
+        && (0..).zip(SOURCES).all(|(number, source)| {
+            comes_to_all(alloc, actors, number) && stands_alone(alloc, actors, number, source)
         })
 }
 

@@ -1,11 +1,9 @@
 //! Tests of actors through their calls.
 //! They try what is refused, and 300 random schedules of letters and turns, after any of which each actor stands where it stands alone
 //! with its letters.
-//! Stands on session and actors.
+//! Stands on ns_actors_setting.
 #![tactic(auto)]
 
-#[cfg(test)]
-mod alone;
 #[cfg(test)]
 mod call_tests;
 #[cfg(test)]

@@ -1,13 +1,6 @@
 //! Four actors of four applications, which post letters to one another.
 //! Each numbers the letters that it posts from 1, so that a letter that is lost, comes twice or comes late is seen.
 
-use ns_actors_calls::actors::Actors;
-use ns_base::limits::Limits;
-use ns_facets::row::Grants;
-use ns_session_files::text::code_of_text;
-use ns_verify::verify::Verified;
-use std::alloc::Global;
-
 /// How many actors there are.
 pub const COUNT: u32 = 4;
 
@@ -56,46 +49,4 @@ public main: p args: a = (console:: p console)
 )";
 
 /// The sources of the four, by their numbers.
-const SOURCES: [&str; 4] = [BUSY, FAILING, DEAF, SLOW];
-
-/// What each is granted: the console alone.
-pub const GRANTED: Grants = Grants {
-    console: true,
-    kernel: false,
-    mirrors: false,
-    board: false,
-};
-
-/// The limits of each, which some of them meet.
-pub const LIMITS: Limits = Limits {
-    steps: 4_000,
-    cells: 4_000,
-    depth: 40,
-    out: 200,
-};
-
-/// The code of a source, which is that of an application.
-pub fn code(alloc: Global, source: &str) -> Option<Verified> {
-    code_of_text(alloc, "T.ns", source, false).ok()
-}
-
-/// The codes of the four.
-pub fn codes(alloc: Global) -> Option<Vec<Verified>> {
-    let mut codes = Vec::new(alloc);
-    for source in SOURCES {
-        codes.push(code(alloc, source)?).ok()?;
-    }
-    Some(codes)
-}
-
-/// Actors of these codes, started.
-pub fn troupe(alloc: Global, codes: &[Verified]) -> Option<Actors> {
-    let mut actors = Actors::new(alloc);
-    for code in codes {
-        let code = code.copy(alloc).ok()?;
-        if LIMITS.are_in_range() {
-            actors.add(code, GRANTED, LIMITS).ok()?;
-        }
-    }
-    Some(actors)
-}
+pub const SOURCES: [&str; 4] = [BUSY, FAILING, DEAF, SLOW];

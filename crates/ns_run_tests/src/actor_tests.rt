@@ -1,6 +1,6 @@
 //! Actors of one program: what is told of them, as text and in JSON, and what is refused.
 
-use crate::command::{Failing, Row, all_end_so, first_other};
+use crate::command::{Commands, Failing, Row, first_other};
 
 /// One whose letters count down, and whose other selectors lead to each way to stop.
 const COUNTS: &[u8] = b"class P packageUsing: m = () (
@@ -314,9 +314,13 @@ const FAILING: &[Failing] = &[
     },
 ];
 
+const COMMANDS: Commands = Commands {
+    files: FILES,
+    tables: &[RESTING, STOPPING, BAD_WORDS, REFUSED],
+    failing: FAILING,
+};
+
 #[test]
 fn actors_leave_what_they_mean(rt: HostRuntime) {
-    let tables = [RESTING, STOPPING, BAD_WORDS, REFUSED];
-    assert_eq!(rt; first_other(rt.alloc(), FILES, &tables), None);
-    assert!(rt; all_end_so(rt.alloc(), FILES, FAILING));
+    assert_eq!(rt; first_other(rt.alloc(), &COMMANDS), None);
 }

@@ -1,8 +1,6 @@
 //! Images: what is built of files, and what is done with it.
 
-use crate::command::{Failing, Row, Setting, all_end_so, first_other};
-use ns_base::no_memory::NoMemory;
-use std::alloc::Global;
+use crate::command::{Commands, Failing, Row, SILENT, first_other};
 
 /// An image of version 1, of a class A whose main method answers 7.
 const SEVEN: &[u8] =
@@ -30,11 +28,16 @@ public main: p args: a = (^make value)
 /// The files that each command finds.
 const FILES: &[(&str, &[u8])] = &[("a.img", SEVEN), ("D.ns", DEAD)];
 
+/// An error of an image that was built has its place.
 const DONE: &[Row] = &[
     (&["exec", "a.img"], ("", "=> 7\n", 0)),
     (&["exec", "--steps=1", "a.img"], ("", "limit: steps\n", 3)),
     (&["list", "a.img"], (LISTING, "", 0)),
-    (&["build", "d.img", "D.ns"], ("", "", 0)),
+    (&["build", "d.img", "D.ns"], SILENT),
+    (
+        &["exec", "d.img"],
+        ("", "D.ns:3:33: DeadReturn Block value\n", 1),
+    ),
 ];
 
 const FAILING: &[Failing] = &[
@@ -103,17 +106,13 @@ const FAILING: &[Failing] = &[
     },
 ];
 
+const COMMANDS: Commands = Commands {
+    files: FILES,
+    tables: &[DONE],
+    failing: FAILING,
+};
+
 #[test]
 fn images_are_built_run_and_listed(rt: HostRuntime) {
-    assert_eq!(rt; first_other(rt.alloc(), FILES, &[DONE]), None);
-    assert!(rt; runs_what_it_stored(rt.alloc()) == Ok(true));
-    assert!(rt; all_end_so(rt.alloc(), FILES, FAILING));
-}
-
-/// An error of an image that was built has its place.
-fn runs_what_it_stored(alloc: Global) -> Result<bool, NoMemory> {
-    let mut setting = Setting::of(alloc, FILES)?;
-    let built = setting.run(alloc, &["build", "d.img", "D.ns"])?;
-    let want = ("", "D.ns:3:33: DeadReturn Block value\n", 1);
-    Ok(built == 0 && setting.leaves(alloc, &["exec", "d.img"], want))
+    assert_eq!(rt; first_other(rt.alloc(), &COMMANDS), None);
 }

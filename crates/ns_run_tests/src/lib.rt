@@ -25,3 +25,7 @@ mod snapshot_tests;
 mod stream_tests;
 #[cfg(test)]
 mod text_tests;
+#[cfg(test)]
+mod texts;
+#[cfg(test)]
+mod word_tests;

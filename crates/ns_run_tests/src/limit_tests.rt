@@ -1,6 +1,7 @@
 //! Texts at the limits of `check` and one past them. Expected places were counted from the texts.
 
-use crate::text_tests::tells;
+use crate::command::{Want, leaves};
+use crate::texts::ACCEPTED;
 use ns_base::no_memory::NoMemory;
 use std::alloc::Global;
 
@@ -79,20 +80,32 @@ const LIMITS: [Limit; 7] = [
 
 #[test]
 fn one_past_each_limit_is_refused(rt: HostRuntime) {
-    assert!(rt;
-        LIMITS
-            .iter()
-            .all(|limit| is_limit(rt.alloc(), limit) == Ok(true))
-    );
+    assert!(rt; all_are_limits(rt.alloc()));
 }
 
-fn is_limit(alloc: Global, limit: &Limit) -> Result<bool, NoMemory> {
-    let most = repeated(alloc, limit, limit.most)?;
-    if !tells(alloc, "check", most.as_bytes(), "") {
-        return Ok(false);
+fn all_are_limits(alloc: Global) -> bool {
+    for limit in &LIMITS {
+        let (most, past) = (limit.most, limit.most.saturating_add(1));
+        if !tells_of(alloc, limit, most, ACCEPTED)
+            || !tells_of(alloc, limit, past, ("", limit.past, 2))
+        {
+            return false;
+        }
     }
-    let more = repeated(alloc, limit, limit.most.saturating_add(1))?;
-    Ok(tells(alloc, "check", more.as_bytes(), limit.past))
+    true
+}
+
+/// Whether that is told of the text in which it stands so often.
+fn tells_of(alloc: Global, limit: &Limit, count: u32, want: Want) -> bool {
+    match repeated(alloc, limit, count) {
+        Ok(text) => leaves(
+            alloc,
+            &[("T.ns", text.as_bytes())],
+            &["check", "T.ns"],
+            want,
+        ),
+        Err(_) => false,
+    }
 }
 
 /// The text in which it stands so often.
@@ -114,18 +127,22 @@ fn push_one(text: &mut String, limit: &Limit, name: &str) -> Result<(), NoMemory
     Ok(())
 }
 
-/// How many blanks a source is, and the line that tells why it is refused.
-const LENGTHS: [(usize, &str); 2] = [
-    (1_048_577, "T.ns: TooLong\n"),
-    (1_048_576, "T.ns:1:1048577: Syntax\n"),
-];
-
 #[test]
 fn a_source_has_at_most_a_mebibyte(rt: HostRuntime) {
-    assert!(rt; LENGTHS.iter().all(|row| tells_of_blanks(rt.alloc(), row.0, row.1) == Ok(true)));
+    let alloc = rt.alloc();
+    assert!(rt; tells_of_blanks(alloc, 1_048_577, "T.ns: TooLong\n"));
+    assert!(rt; tells_of_blanks(alloc, 1_048_576, "T.ns:1:1048577: Syntax\n"));
 }
 
-fn tells_of_blanks(alloc: Global, length: usize, err: &'static str) -> Result<bool, NoMemory> {
-    let blanks = vec![in alloc; b' '; length]?;
-    Ok(tells(alloc, "run", blanks.as_slice(), err))
+/// Whether a source of so many blanks is refused with that line.
+fn tells_of_blanks(alloc: Global, length: usize, line: &'static str) -> bool {
+    match vec![in alloc; b' '; length] {
+        Ok(blanks) => leaves(
+            alloc,
+            &[("T.ns", blanks.as_slice())],
+            &["run", "T.ns"],
+            ("", line, 2),
+        ),
+        Err(_) => false,
+    }
 }

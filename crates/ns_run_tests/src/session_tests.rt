@@ -1,6 +1,6 @@
 //! Sessions: what is told of their applications, and what is left where a device fails.
 
-use crate::command::{Failing, all_end_so};
+use crate::command::{Commands, Failing, Row, first_other};
 
 /// One that prints a line, and one that asks for a console.
 const FILES: &[(&str, &[u8])] = &[
@@ -27,32 +27,20 @@ B.ns:1:60: NotUnderstood Platform console
 const TOLD_IN_PARTS: &str =
     "[{\"status\":\"done\",\"answer\":\"object A\",\"output\":\"a\\u000a\",\"steps\":4,\"cells\":11,\"depth\":0,\"out\":2}]\n";
 
-const ROWS: &[Failing] = &[
-    Failing {
-        words: TWO,
-        shelf: &[],
-        out: &[],
-        err: &[],
-        want: (TOLD, "", 1),
-    },
-    Failing {
-        words: &["session", "--json", "c=A.ns"],
-        shelf: &[],
-        out: &[],
-        err: &[],
-        want: (TOLD_IN_PARTS, "", 0),
-    },
-    Failing {
-        words: &["session", "--json", "c=A.ns", "=C.ns"],
-        shelf: &[],
-        out: &[],
-        err: &[],
-        want: (
+const ROWS: &[Row] = &[
+    (TWO, (TOLD, "", 1)),
+    (&["session", "--json", "c=A.ns"], (TOLD_IN_PARTS, "", 0)),
+    (
+        &["session", "--json", "c=A.ns", "=C.ns"],
+        (
             "{\"status\":\"refused\",\"cause\":\"Missing\",\"file\":\"C.ns\"}\n",
             "",
             2,
         ),
-    },
+    ),
+];
+
+const FAILING: &[Failing] = &[
     Failing {
         words: TWO,
         shelf: &[0],
@@ -83,7 +71,13 @@ const ROWS: &[Failing] = &[
     },
 ];
 
+const COMMANDS: Commands = Commands {
+    files: FILES,
+    tables: &[ROWS],
+    failing: FAILING,
+};
+
 #[test]
 fn sessions_end_so(rt: HostRuntime) {
-    assert!(rt; all_end_so(rt.alloc(), FILES, ROWS));
+    assert_eq!(rt; first_other(rt.alloc(), &COMMANDS), None);
 }

@@ -1,8 +1,6 @@
 //! Snapshots: a run that is stored after some of its steps goes on as it would have, and what is left where the shelf fails.
 
-use crate::command::{Failing, Row, Setting, Want, all_end_so, first_other};
-use ns_base::no_memory::NoMemory;
-use std::alloc::Global;
+use crate::command::{Commands, Failing, Row, SILENT, Want, first_other};
 
 /// One that prints twice, and then sends what nothing answers.
 const FILES: &[(&str, &[u8])] = &[(
@@ -20,8 +18,18 @@ const RUN: Want = ("ab", "P.ns:2:35: NotUnderstood Platform foo\n", 1);
 /// The run that isn't cut.
 const WHOLE: &[Row] = &[(&["run", "P.ns"], RUN)];
 
-/// Of its eight steps: before the first, between the two that print, before the last, and behind the end.
-const CUTS: &[&str] = &["--at=0", "--at=5", "--at=7", "--at=1000"];
+/// The run goes on from where it was cut as if it hadn't been. Of its eight steps it is cut before the first, between the two that
+/// print, before the last, and behind the end.
+const CUT: &[Row] = &[
+    (&["snap", "--at=0", "first.snap", "P.ns"], SILENT),
+    (&["resume", "first.snap"], RUN),
+    (&["snap", "--at=5", "between.snap", "P.ns"], SILENT),
+    (&["resume", "between.snap"], RUN),
+    (&["snap", "--at=7", "last.snap", "P.ns"], SILENT),
+    (&["resume", "last.snap"], RUN),
+    (&["snap", "--at=1000", "end.snap", "P.ns"], SILENT),
+    (&["resume", "end.snap"], RUN),
+];
 
 const FAILING: &[Failing] = &[
     Failing {
@@ -56,23 +64,13 @@ const REFUSED: &[Row] = &[
     ),
 ];
 
+const COMMANDS: Commands = Commands {
+    files: FILES,
+    tables: &[WHOLE, CUT, REFUSED],
+    failing: FAILING,
+};
+
 #[test]
 fn snapshots_are_stored_and_go_on(rt: HostRuntime) {
-    assert_eq!(rt; first_other(rt.alloc(), FILES, &[WHOLE, REFUSED]), None);
-    assert!(rt; all_go_on(rt.alloc()));
-    assert!(rt; all_end_so(rt.alloc(), FILES, FAILING));
-}
-
-/// Whether the run goes on from each cut.
-fn all_go_on(alloc: Global) -> bool {
-    CUTS.iter().all(|cut| goes_on(alloc, cut) == Ok(true))
-}
-
-/// Whether the run goes on from where it was cut as if it hadn't been, after a command that writes nothing.
-fn goes_on(alloc: Global, cut: &str) -> Result<bool, NoMemory> {
-    let mut setting = Setting::of(alloc, FILES)?;
-    Ok(
-        setting.leaves(alloc, &["snap", cut, "p.snap", "P.ns"], ("", "", 0))
-            && setting.leaves(alloc, &["resume", "p.snap"], RUN),
-    )
+    assert_eq!(rt; first_other(rt.alloc(), &COMMANDS), None);
 }
