@@ -17,16 +17,15 @@ fn schedules_keep_to_letters(rt: HostRuntime) {
 
 /// Whether actors keep to their letters under each of 300 random schedules.
 fn all_keep_to_letters(alloc: Global) -> bool {
-    for seed in 0..300 {
-        if !with_actors(
-            alloc,
-            &SOURCES,
-            |actors| keep_to_letters(alloc, actors, seed),
-        ) {
-            return false;
-        }
-    }
-    true
+    (0..300).all(|seed| keep_to_schedule(alloc, seed))
+}
+
+fn keep_to_schedule(alloc: Global, seed: u64) -> bool {
+    with_actors(
+        alloc,
+        &SOURCES,
+        |actors| keep_to_letters(alloc, actors, seed),
+    )
 }
 
 /// Whether actors keep to their letters after a random schedule, and again when all have come to rest.

@@ -1,6 +1,6 @@
 //! Images: what is built of files, and what is done with it.
 
-use crate::command::{Commands, Failing, Row, SILENT, first_other};
+use crate::command::{Commands, Fails, Row, first_other};
 
 /// An image of version 1, of a class A whose main method answers 7.
 const SEVEN: &[u8] =
@@ -30,80 +30,23 @@ const FILES: &[(&str, &[u8])] = &[("a.img", SEVEN), ("D.ns", DEAD)];
 
 /// An error of an image that was built has its place.
 const DONE: &[Row] = &[
-    (&["exec", "a.img"], ("", "=> 7\n", 0)),
-    (&["exec", "--steps=1", "a.img"], ("", "limit: steps\n", 3)),
-    (&["list", "a.img"], (LISTING, "", 0)),
-    (&["build", "d.img", "D.ns"], SILENT),
-    (
-        &["exec", "d.img"],
-        ("", "D.ns:3:33: DeadReturn Block value\n", 1),
-    ),
+    ("exec a.img", "", "=> 7\n", 0),
+    ("exec --steps=1 a.img", "", "limit: steps\n", 3),
+    ("list a.img", LISTING, "", 0),
+    ("build d.img D.ns", "", "", 0),
+    ("exec d.img", "", "D.ns:3:33: DeadReturn Block value\n", 1),
 ];
 
-const FAILING: &[Failing] = &[
-    Failing {
-        words: &["build", "d.img", "D.ns"],
-        shelf: &[0],
-        out: &[],
-        err: &[],
-        want: ("", "", 4),
-    },
-    Failing {
-        words: &["build", "d.img", "D.ns"],
-        shelf: &[1],
-        out: &[],
-        err: &[],
-        want: ("", "", 5),
-    },
-    Failing {
-        words: &["exec", "a.img"],
-        shelf: &[0],
-        out: &[],
-        err: &[],
-        want: ("", "", 4),
-    },
-    Failing {
-        words: &["exec", "a.img"],
-        shelf: &[],
-        out: &[],
-        err: &[(0, 2)],
-        want: ("", "=>", 5),
-    },
-    Failing {
-        words: &["list", "a.img"],
-        shelf: &[0],
-        out: &[],
-        err: &[],
-        want: ("", "", 4),
-    },
-    Failing {
-        words: &["list", "a.img"],
-        shelf: &[],
-        out: &[(0, 7)],
-        err: &[],
-        want: ("class 0", "", 5),
-    },
-    Failing {
-        words: &["show", "D.ns"],
-        shelf: &[],
-        out: &[(0, 5)],
-        err: &[],
-        want: ("class", "", 5),
-    },
-    Failing {
-        words: &["check", "D.ns", "D.ns"],
-        shelf: &[1],
-        out: &[],
-        err: &[],
-        want: ("", "", 4),
-    },
-    Failing {
-        words: &["run", "D.ns", "D.ns"],
-        shelf: &[1],
-        out: &[],
-        err: &[],
-        want: ("", "", 4),
-    },
+const FAILING: &[(Fails, Row)] = &[
+    (Fails::Shelf(0), ("build d.img D.ns", "", "", 4)),
+    (Fails::Shelf(1), ("build d.img D.ns", "", "", 5)),
+    (Fails::Shelf(0), ("exec a.img", "", "", 4)),
+    (Fails::Err(2), ("exec a.img", "", "=>", 5)),
+    (Fails::Shelf(0), ("list a.img", "", "", 4)),
+    (Fails::Out(7), ("list a.img", "class 0", "", 5)),
+    (Fails::Out(5), ("show D.ns", "class", "", 5)),
+    (Fails::Shelf(1), ("check D.ns D.ns", "", "", 4)),
+    (Fails::Shelf(1), ("run D.ns D.ns", "", "", 4)),
 ];
 
 const COMMANDS: Commands = Commands {

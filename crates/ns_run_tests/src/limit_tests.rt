@@ -1,7 +1,6 @@
 //! Texts at the limits of `check` and one past them. Expected places were counted from the texts.
 
-use crate::command::{Want, leaves};
-use crate::texts::ACCEPTED;
+use crate::command::leaves;
 use ns_base::no_memory::NoMemory;
 use std::alloc::Global;
 
@@ -84,28 +83,25 @@ fn one_past_each_limit_is_refused(rt: HostRuntime) {
 }
 
 fn all_are_limits(alloc: Global) -> bool {
-    for limit in &LIMITS {
-        let (most, past) = (limit.most, limit.most.saturating_add(1));
-        if !tells_of(alloc, limit, most, ACCEPTED)
-            || !tells_of(alloc, limit, past, ("", limit.past, 2))
-        {
-            return false;
-        }
-    }
-    true
+    LIMITS
+        .iter()
+        .all(|limit| is_limit(alloc, limit) == Ok(true))
 }
 
-/// Whether that is told of the text in which it stands so often.
-fn tells_of(alloc: Global, limit: &Limit, count: u32, want: Want) -> bool {
-    match repeated(alloc, limit, count) {
-        Ok(text) => leaves(
+fn is_limit(alloc: Global, limit: &Limit) -> Result<bool, NoMemory> {
+    let most = repeated(alloc, limit, limit.most)?;
+    let more = repeated(alloc, limit, limit.most.saturating_add(1))?;
+    Ok(
+        leaves(
             alloc,
-            &[("T.ns", text.as_bytes())],
-            &["check", "T.ns"],
-            want,
+            &[("T.ns", most.as_bytes())],
+            ("check T.ns", "ok\n", "", 0),
+        ) && leaves(
+            alloc,
+            &[("T.ns", more.as_bytes())],
+            ("check T.ns", "", limit.past, 2),
         ),
-        Err(_) => false,
-    }
+    )
 }
 
 /// The text in which it stands so often.
@@ -140,8 +136,7 @@ fn tells_of_blanks(alloc: Global, length: usize, line: &'static str) -> bool {
         Ok(blanks) => leaves(
             alloc,
             &[("T.ns", blanks.as_slice())],
-            &["run", "T.ns"],
-            ("", line, 2),
+            ("run T.ns", "", line, 2),
         ),
         Err(_) => false,
     }

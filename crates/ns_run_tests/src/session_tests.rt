@@ -1,6 +1,6 @@
 //! Sessions: what is told of their applications, and what is left where a device fails.
 
-use crate::command::{Commands, Failing, Row, first_other};
+use crate::command::{Commands, Fails, Row, first_other};
 
 /// One that prints a line, and one that asks for a console.
 const FILES: &[(&str, &[u8])] = &[
@@ -14,7 +14,7 @@ const FILES: &[(&str, &[u8])] = &[
     ),
 ];
 
-const TWO: &[&str] = &["session", "--quantum=1", "c=A.ns", "=B.ns"];
+const TWO: &str = "session --quantum=1 c=A.ns =B.ns";
 
 const TOLD: &str = "app 0
 a
@@ -28,47 +28,21 @@ const TOLD_IN_PARTS: &str =
     "[{\"status\":\"done\",\"answer\":\"object A\",\"output\":\"a\\u000a\",\"steps\":4,\"cells\":11,\"depth\":0,\"out\":2}]\n";
 
 const ROWS: &[Row] = &[
-    (TWO, (TOLD, "", 1)),
-    (&["session", "--json", "c=A.ns"], (TOLD_IN_PARTS, "", 0)),
+    (TWO, TOLD, "", 1),
+    ("session --json c=A.ns", TOLD_IN_PARTS, "", 0),
     (
-        &["session", "--json", "c=A.ns", "=C.ns"],
-        (
-            "{\"status\":\"refused\",\"cause\":\"Missing\",\"file\":\"C.ns\"}\n",
-            "",
-            2,
-        ),
+        "session --json c=A.ns =C.ns",
+        "{\"status\":\"refused\",\"cause\":\"Missing\",\"file\":\"C.ns\"}\n",
+        "",
+        2,
     ),
 ];
 
-const FAILING: &[Failing] = &[
-    Failing {
-        words: TWO,
-        shelf: &[0],
-        out: &[],
-        err: &[],
-        want: ("", "", 4),
-    },
-    Failing {
-        words: TWO,
-        shelf: &[1],
-        out: &[],
-        err: &[],
-        want: ("", "", 4),
-    },
-    Failing {
-        words: TWO,
-        shelf: &[],
-        out: &[(0, 7)],
-        err: &[],
-        want: ("app 0\na", "", 5),
-    },
-    Failing {
-        words: &["session", "c=A.ns", "=C.ns"],
-        shelf: &[],
-        out: &[],
-        err: &[(0, 4)],
-        want: ("", "C.ns", 5),
-    },
+const FAILING: &[(Fails, Row)] = &[
+    (Fails::Shelf(0), (TWO, "", "", 4)),
+    (Fails::Shelf(1), (TWO, "", "", 4)),
+    (Fails::Out(7), (TWO, "app 0\na", "", 5)),
+    (Fails::Err(4), ("session c=A.ns =C.ns", "", "C.ns", 5)),
 ];
 
 const COMMANDS: Commands = Commands {

@@ -16,7 +16,7 @@ fn written(alloc: Global, fail_at: &[(u64, u64)]) -> Result<(usize, u8), NoMemor
     let source = line(alloc)?;
     let mut setting = Setting::of(alloc, &[("T.ns", source.as_bytes())])?;
     setting.out.fail_at.extend_from_slice(fail_at)?;
-    let exit = setting.run(alloc, &["run", "T.ns"])?;
+    let exit = setting.run(alloc, "run T.ns")?;
     Ok((setting.out.bytes.len(), exit))
 }
 

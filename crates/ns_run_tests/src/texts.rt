@@ -1,6 +1,6 @@
 //! Texts, each of which is the one file of a command, within a class or a method.
 
-use crate::command::{Want, Words, leaves};
+use crate::command::leaves;
 use ns_base::no_memory::NoMemory;
 use std::alloc::Global;
 
@@ -15,30 +15,32 @@ pub const METHOD: Around = (
     ")\n)\n",
 );
 
-/// A text, and what a command of it leaves.
-pub type Row = (&'static str, Want);
+/// A text, the bytes that a command of it leaves in both streams, and the exit status.
+pub type Row = (&'static str, &'static str, &'static str, u8);
 
-/// What a command leaves that finds no fault in its file.
-pub const ACCEPTED: Want = ("ok\n", "", 0);
-
-/// The words of a command, and the texts that it is given, in the file T.ns.
-pub type Table = (Words, Around, &'static [Row]);
+/// A command of the file T.ns, and the texts that it is given there.
+pub type Table = (&'static str, Around, &'static [Row]);
 
 /// The first text of the tables of which its command leaves something else.
 pub fn first_other(alloc: Global, tables: &[Table]) -> Option<&'static str> {
-    for (words, around, rows) in tables {
-        for (text, want) in *rows {
-            if !is_left(alloc, words, *around, text, *want) {
-                return Some(text);
+    for (line, around, rows) in tables {
+        for row in *rows {
+            if !is_left(alloc, line, *around, *row) {
+                return Some(row.0);
             }
         }
     }
     None
 }
 
-fn is_left(alloc: Global, words: Words, around: Around, text: &str, want: Want) -> bool {
+fn is_left(alloc: Global, line: &'static str, around: Around, row: Row) -> bool {
+    let (text, out, err, status) = row;
     match within(alloc, around, text) {
-        Ok(source) => leaves(alloc, &[("T.ns", source.as_bytes())], words, want),
+        Ok(source) => leaves(
+            alloc,
+            &[("T.ns", source.as_bytes())],
+            (line, out, err, status),
+        ),
         Err(_) => false,
     }
 }
