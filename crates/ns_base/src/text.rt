@@ -8,14 +8,15 @@ ghost use Rattle.std.proofs.Common.{ap};
 
 use crate::no_memory::NoMemory;
 use indexmap::Equivalent;
+use smallvec::SmallVec;
 use std::alloc::Global;
 use std::hash::{Hash, Hasher};
 use std::marker::Model;
 
-/// A list of bytes. A clause sees the list alone.
+/// A list of bytes. A clause sees the list alone. Up to 16 bytes, as most names have, stand in the text itself.
 #[derive(Drop)]
 pub struct Text {
-    all: Vec<u8>,
+    all: SmallVec<u8, 16>,
 }
 
 impl Model for Text {
@@ -30,27 +31,32 @@ impl Model for Text {
 }
 
 impl Text {
-    /// The text of these bytes, in memory of its own.
+    /// The text of these bytes.
     pub fn of(alloc: Global, bytes: &[u8]) -> Result<Text, NoMemory>
         ensures { IfOk result (λ t. t ≡ bytes.now) }
     {
         Ok(Text {
-            all: Vec::from_slice(alloc, bytes)?,
+            all: SmallVec::from_slice(alloc, bytes)?,
         })
     }
 
-    /// The text of the bytes of a vector, whose memory it takes over.
+    /// The text of the bytes of a vector, whose memory it takes over where it is long.
     pub fn from_vec(bytes: Vec<u8>) -> Text
         ensures { result ≡ bytes.items }
     {
-        Text { all: bytes }
+        Text {
+            all: SmallVec::from_vec(bytes),
+        }
     }
 
-    /// The vector of its bytes, in the text's own memory.
-    pub fn into_vec(self) -> Vec<u8>
-        ensures { result.items ≡ self }
+    /// The vector of its bytes, in the text's own memory where it has any.
+    pub fn into_vec(self) -> Result<Vec<u8>, NoMemory>
+        ensures { IfOk result (λ bytes. bytes.items ≡ self) }
     {
-        self.all
+        match self.all.into_vec() {
+            Ok(bytes) => Ok(bytes),
+            Err(_) => Err(NoMemory),
+        }
     }
 
     /// Its bytes.

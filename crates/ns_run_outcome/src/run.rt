@@ -140,7 +140,7 @@ fn with_stats(
 fn with_line(text: Text, line: &[u8]) -> Result<Text, NoMemory>
     ensures { IfOk result (λ made. made ≡ text ++ line.now) }
 {
-    let mut bytes = text.into_vec();
+    let mut bytes = text.into_vec()?;
     bytes.extend_from_slice(line)?;
     Ok(Text::from_vec(bytes))
 }

@@ -102,7 +102,7 @@ fn with_text(
     ensures { IfOk result (λ all. all ≡ text ++ text_of number transcript.now line.now) }
 {
     let head = format!(in alloc; "app {number}\n")?;
-    let mut out = text.into_vec();
+    let mut out = text.into_vec()?;
     out.extend_from_slice(head.as_bytes())?;
     out.extend_from_slice(transcript)?;
     out.extend_from_slice(line)?;

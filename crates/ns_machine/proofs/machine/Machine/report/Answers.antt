@@ -1,4 +1,4 @@
-use Rattle.std.proofs.Common.{ap, sym, subst, ◌∙◌}
+use Rattle.std.proofs.Common.{◌≡◌, ℕ, List, IfOk, ap, sym, subst, ◌∙◌}
 use Rattle.ns_code.specs.declared.program.CodeProgram.{CodeProgram}
 use Rattle.ns_world.specs.Lawful.{IsLawful}
 use Rattle.ns_moves.specs.Control.{Progress}
@@ -17,8 +17,9 @@ report_line-requires-clause-lawful c =
 pub returns : goal.returns
 returns c =
     let m = c.self.inside in
-    c.into_vec.ensures
-    ∙ (c.in_ok-line.ensures
+    subst (λ (line : List ℕ). IfOk c.into_vec.result (λ bytes. bytes.items ≡ line))
+    (c.in_ok-line.ensures
     ∙ (ap (λ (code : CodeProgram). report_line m.core.run.world.world.cells code c.args.files.now c.args.ending.now) c.code.ensures.code
     ∙ (ap (λ (p : Progress). report_line p.world.cells m.code c.args.files.now c.args.ending.now) (sym (stage_progress m.code m.core m.stage))
     ∙ ap (λ (shown : MachineView). report_line (world_of shown.state).cells shown.code c.args.files.now c.args.ending.now) c.self.view_is)))
+    c.into_vec.ensures
