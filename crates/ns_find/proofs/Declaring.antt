@@ -50,14 +50,14 @@ yes_not true e = refl
 yes_not false e = absurd (cc)
 
 -- a name that is an identifier is there, and is what its number stands for
-name_there : (code : CodeProgram) (name : Sel) → is_identifier_name code name ≡ true → name.0 < length code.names
+pub name_there : (code : CodeProgram) (name : Sel) → is_identifier_name code name ≡ true → name.0 < length code.names
 name_there code name e = by (slice_get code.names name.0) refl e
   where
     by : (o : Option (List ℕ)) → slice_get code.names name.0 ≡ o → option_map_or is_identifier o false ≡ true → name.0 < length code.names
     by None is e = absurd (cc)
     by (Some text) is e = slice_get_within code.names name.0 text is
 
-text_there : (code : CodeProgram) (number : ℕ) → number < length code.names → selector_text code number ≡ get_or code.names number []
+pub text_there : (code : CodeProgram) (number : ℕ) → number < length code.names → selector_text code number ≡ get_or code.names number []
 text_there code number lt =
     ap (λ b. if b then get_or code.names number [] else own_text_at (number - length code.names)) (lt-ltb number (length code.names) lt)
 

@@ -1,5 +1,4 @@
 pub mod RowSearch
-pub mod Colon
 pub mod Parts
 pub mod Keeping
 mod Among
@@ -9,3 +8,4 @@ pub mod Later
 mod Spelled
 mod Fronts
 mod Declaring
+mod Setters

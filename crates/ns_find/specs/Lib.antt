@@ -1,4 +1,5 @@
 pub mod Members
+pub mod Setters
 pub mod Rows
 pub mod Find
 pub mod Belonging

@@ -1,12 +1,14 @@
 //! The members of a declaration that a selector names.
 
-ghost use Rattle.std.specs.Prelude.{◌≡◌, ◌+◌, ◌<◌, ◌≤◌, [], ◌∷◌, ◌++◌, length, IsTrue, Some};
+ghost use Rattle.std.specs.Prelude.{◌≡◌, ◌<◌, ◌≤◌, ℕ, length, IsTrue};
 ghost use Rattle.ns_world.specs.Heap.{find_cell, is_class};
 ghost use Rattle.ns_world.specs.Lawful.{IsLawful};
 ghost use Rattle.ns_world.specs.Layout.{declaration_of, entries_of};
-ghost use Rattle.std.specs.Str.{bytes_eq};
 ghost use Rattle.ns_code.specs.declared.program.CodeProgram.{CodeProgram};
+ghost use Rattle.ns_code.specs.Fits.{Fits};
+ghost use Rattle.ns_code.specs.Soundness.{is_identifier_name};
 ghost use Rattle.ns_find.specs.Members as spec;
+ghost use Rattle.ns_find.specs.Setters.{IsFrontOf, AreNamed};
 ghost use Rattle.ns_find.specs.Members.{NamedAs, SetterOf};
 
 use crate::found::{Found, Sending};
@@ -106,20 +108,14 @@ pub fn is_named_as(code: &CodeProgram, sel: Sel, class: u32) -> bool
     }
 }
 
-/// Whether a selector is a name with a colon behind it.
-pub fn is_setter_of(code: &CodeProgram, sel: Sel, name: Sel) -> bool
-    ensures { result ≡ spec.is_named code.now sel.0 (SetterOf name.0) }
+/// Whether a selector, before whose colon the name of that number stands, is that of a slot of this name with a colon behind it.
+pub fn is_setter_of(front: Option<u32>, name: Sel) -> bool
+    ensures { (code : CodeProgram) (sel : ℕ) → Fits code → IsFrontOf code sel front → IsTrue (is_identifier_name code name) →
+        result ≡ spec.is_named code sel (SetterOf name.0) }
 {
-    is_with_colon(code.selector_text(sel), code.selector_text(name))
-}
-
-/// Whether a text is another one with a colon behind it.
-fn is_with_colon(text: &[u8], name: &[u8]) -> bool
-    ensures { result ≡ bytes_eq text.now (name.now ++ 58 ∷ []) }
-{
-    match text {
-        [front @ .., last] => *last == b':' && front == name,
-        [] => false,
+    match front {
+        Some(number) => number == name.0,
+        None => false,
     }
 }
 
@@ -131,8 +127,11 @@ fn slot(
     holder: u32,
     entry: u32,
     asked: Asked,
+    front: Option<u32>,
 ) -> Option<Found>
     requires lawful { IsLawful world.now.world code.now }
+    requires front { IsFrontOf code.now asked.sel.0 front }
+    requires named { IsTrue (is_identifier_name code.now slot.name) }
     requires holder { IsTrue (is_class (find_cell world.now.world.cells holder)) }
     requires entry { entry < entries_of code.now (declaration_of world.now.world.cells holder) }
     ensures { result ≡ spec.search code.now asked.sel.0 asked.kind (spec.slot_members world.now.world.cells code.now asked.wanted holder entry slot) }
@@ -141,10 +140,7 @@ fn slot(
         let word = word(world, code, holder, entry);
         return Some(allowed(asked.kind, slot.access, Found::Getter { holder, word }));
     }
-    if is_setter_of(code, asked.sel, slot.name)
-        && is_wanted(asked.wanted, slot.access)
-        && slot.mutable
-    {
+    if is_setter_of(front, slot.name) && is_wanted(asked.wanted, slot.access) && slot.mutable {
         let word = word(world, code, holder, entry);
         return Some(allowed(asked.kind, slot.access, Found::Setter { holder, word }));
     }
@@ -163,11 +159,13 @@ pub fn slots(
     requires holder { IsTrue (is_class (find_cell world.now.world.cells holder)) }
     requires entries { length slots.now ≤ entries_of code.now (declaration_of world.now.world.cells holder) }
     requires few { length slots.now < 65536 }
+    requires named { AreNamed code.now slots.now }
     ensures { result ≡ spec.search code.now asked.sel.0 asked.kind (spec.slots_members world.now.world.cells code.now asked.wanted holder 0 slots.now) }
 {
+    let front = code.names.front(asked.sel);
     let mut entry: u32 = 0;
     'slots: for one in slots {
-        match slot(world, code, *one, holder, entry, asked) {
+        match slot(world, code, *one, holder, entry, asked, front) {
             Some(found) => return Some(found),
             None => entry += 1,
         }

@@ -1,4 +1,4 @@
-use Rattle.std.proofs.Common.{arith}
+use Rattle.std.proofs.Common.{refl, arith}
 use Rattle.ns_find.proofs.Parts.{slots_here, slots_past}
 use Rattle.ns_find.proofs.members.slots.Goals as goal
 
@@ -9,3 +9,6 @@ returns-in-Some c =
 pub slots-preserved : goal.slots-preserved
 slots-preserved c =
     (omega arith, slots_past c.args.world.now.world.cells c.args.code.now c.args.asked.sel.0 c.args.asked.kind c.args.asked.wanted c.args.holder c.slots.entry c.slots.one-index c.args.slots.now _ _ (omega arith) c.slots.invariant.1 c.in-None.ensures)
+
+pub slot-requires-clause-front : goal.slot-requires-clause-front
+slot-requires-clause-front c = c.front-front.ensures c.args.code.now refl
