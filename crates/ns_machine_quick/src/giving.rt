@@ -126,10 +126,30 @@ fn other_apart(
         return Led::Nowhere;
     }
     let found = found_of(&mut core.run, code, receiver, send.sel, send.kind);
-    do_found(code, core, at, send, found)
+    do_other(code, core, at, send, found)
 }
 
-/// Goes on with what was found, where that is a method, a slot, or a row of the kernel.
+/// Goes on with what was found for any other value, which has no slots and no nested classes.
+#[inline(always)]
+fn do_other(
+    code: &CodeProgram,
+    core: &mut Core,
+    at: Registers,
+    send: &ValueSend,
+    found: Found,
+) -> Led
+    requires can { CanSendBelow code.now core.old at send.now }
+    requires finds { FindsBelow code.now core.old at send.now found }
+    ensures { BelowLeads code.now core.old at send.now core.new result }
+{
+    match found {
+        Found::Method { body, holder } => do_method(code, core, at, send, body, holder),
+        Found::Kernel(number) => do_row(code, core, at, send, number),
+        _ => Led::Nowhere,
+    }
+}
+
+/// Goes on with what was found for an object, where that is a method, a slot, a nested class, or a row of the kernel.
 #[inline(always)]
 fn do_found(
     code: &CodeProgram,

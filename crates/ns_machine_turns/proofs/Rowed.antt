@@ -1,5 +1,5 @@
 -- The row of a send in the body that runs, and where it leads.
-use Rattle.std.proofs.Common.{◌≡◌, ℕ, List, [], ◌∷◌, take, refl, sym, subst, ◌∙◌, Option, Some, None}
+use Rattle.std.proofs.Common.{◌≡◌, List, [], ◌∷◌, take, refl, sym, subst, Option, Some, None}
 use Rattle.std.specs.Prelude.{slice_get, IsSome}
 use Rattle.ns_code.specs.declared.body.BodyCode.{BodyCode}
 use Rattle.ns_code.specs.declared.program.CodeProgram.{CodeProgram}
@@ -9,18 +9,16 @@ use Rattle.ns_machine_frames.specs.declared.frame.Frame.TheVariants.{Running, Lo
 use Rattle.ns_machine_frames.specs.declared.frame.RunningFrame.{RunningFrame}
 use Rattle.ns_machine_frames.specs.declared.registers.Registers.{Registers}
 use Rattle.ns_machine_frames.specs.Standing.{standing, at_next}
-use Rattle.ns_machine_plan.specs.declared.packed.Packed.{Packed}
 use Rattle.ns_machine_plan.specs.declared.packed.ValueSend.{ValueSend}
 use Rattle.ns_machine_plan.specs.declared.step.SpelledRow.{SpelledRow}
 use Rattle.ns_machine_plan.specs.declared.step.Step.{Step}
-use Rattle.ns_machine_plan.specs.declared.tables.Tables.{Tables}
 use Rattle.ns_machine_core.specs.declared.led.Led.{Led}
 use Rattle.ns_machine_core.specs.declared.state.Core.{Core}
 use Rattle.ns_machine_core.specs.declared.state.Next.{Next}
 use Rattle.ns_machine_core.specs.Shown.{progress_in}
 use Rattle.ns_machine_core.specs.Doing.{Finds, CanDo}
 use Rattle.ns_machine_core.specs.Tried.{LeadsOrChangesNothing}
-use Rattle.ns_machine_plan.specs.Packed.{unpacked, send_at, value_send, SendIsAt}
+use Rattle.ns_machine_plan.specs.Packed.{value_send}
 use Rattle.ns_machine_plan.specs.Spelled.{spelled_by}
 use Rattle.ns_machine_plan.specs.Steps.{HasItsMember, instr_of, place_of, send_instr}
 use Rattle.ns_machine_quick.specs.Values.{DoesOrNot}
@@ -50,30 +48,23 @@ body_above code core at instr step can above =
 
 -- ---- a send to a value, as it is kept
 
-module _ (code : CodeProgram) (core : Core) (at : Registers) (tables : Tables) (packed : Packed) (row : Option SpelledRow) (number : ℕ) (send : ValueSend)
-    (is : unpacked tables packed ≡ send_at tables row number) (there : SendIsAt tables number send) where
-  send_is : unpacked tables packed ≡ value_send row send
-  send_is = is ∙ there row
-
+module _ (code : CodeProgram) (core : Core) (at : Registers) (step : Step) (row : Option SpelledRow) (send : ValueSend) (is : step ≡ value_send row send) where
   -- it can be done,
-  pub can_send : CanDo code core at (instr_of (unpacked tables packed)) → CanDo code core at (send_instr send.kind send.sel send.argc)
-  can_send can = subst (λ (step : Step). CanDo code core at (instr_of step)) send_is can
+  pub can_send : CanDo code core at (instr_of step) → CanDo code core at (send_instr send.kind send.sel send.argc)
+  can_send can = subst (λ (step : Step). CanDo code core at (instr_of step)) is can
 
   -- has the row that its selector spells,
-  pub row_spelled : CanDo code core at (instr_of (unpacked tables packed)) → HasMemberAbove code core.stack.frames.items (unpacked tables packed)
-      → spelled_by code send.sel ≡ row
-  row_spelled can above =
-      let it = body_above code core at (instr_of (unpacked tables packed)) (unpacked tables packed) can above in
-      sym (subst (λ (step : Step). HasItsMember code it.body step) send_is it.has)
+  pub row_is_spelled : CanDo code core at (instr_of step) → HasMemberAbove code core.stack.frames.items step → spelled_by code send.sel ≡ row
+  row_is_spelled can above =
+      let it = body_above code core at (instr_of step) step can above in
+      sym (subst (λ (step : Step). HasItsMember code it.body step) is it.has)
 
   -- and leads where its step does.
   pub send_leads : (new : Core) (led : Led) → LeadsOrChangesNothing code (send_instr send.kind send.sel send.argc) (slice_get core.places send.place) core at new led
-      → LeadsOrChangesNothing code (instr_of (unpacked tables packed)) (place_of core.places (unpacked tables packed)) core at new led
-  send_leads new led leads =
-      subst (λ (step : Step). LeadsOrChangesNothing code (instr_of step) (place_of core.places step) core at new led) (sym send_is) leads
+      → LeadsOrChangesNothing code (instr_of step) (place_of core.places step) core at new led
+  send_leads new led leads = subst (λ (step : Step). LeadsOrChangesNothing code (instr_of step) (place_of core.places step) core at new led) (sym is) leads
 
   -- So it goes where its step does.
   pub send_goes : (new : Core) (done : Option Next) → DoesOrNot code (send_instr send.kind send.sel send.argc) (slice_get core.places send.place) core at new done
-      → DoesOrNot code (instr_of (unpacked tables packed)) (place_of core.places (unpacked tables packed)) core at new done
-  send_goes new done goes =
-      subst (λ (step : Step). DoesOrNot code (instr_of step) (place_of core.places step) core at new done) (sym send_is) goes
+      → DoesOrNot code (instr_of step) (place_of core.places step) core at new done
+  send_goes new done goes = subst (λ (step : Step). DoesOrNot code (instr_of step) (place_of core.places step) core at new done) (sym is) goes

@@ -7,3 +7,4 @@ pub mod Above
 pub mod Looping
 pub mod Repeating
 pub mod Ways
+pub mod Sent

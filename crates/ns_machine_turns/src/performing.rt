@@ -1,22 +1,24 @@
 //! A step by the quick way, as it is kept.
 
-ghost use Rattle.std.specs.Prelude.{◌≡◌, Some, slice_get};
+ghost use Rattle.std.specs.Prelude.{◌≡◌, IfSome, Some, slice_get};
 ghost use Rattle.ns_code.specs.declared.instruction.Instr.TheVariants as instr;
 ghost use Rattle.ns_machine_plan.specs.Arrays.{row_of_send as array_row_of_send};
-ghost use Rattle.ns_machine_plan.specs.Booleans.{method_of_send};
-ghost use Rattle.ns_machine_plan.specs.Integers.{row_of_send};
-ghost use Rattle.ns_machine_plan.specs.Packed.{EntryIsThere, step_in};
+ghost use Rattle.ns_machine_plan.specs.Packed.{EntryIsThere, step_in, value_send};
+ghost use Rattle.ns_machine_plan.specs.Spelled.{spelled_by};
 ghost use Rattle.ns_machine_plan.specs.Steps.{instr_of, place_of, send_instr};
 ghost use Rattle.ns_machine_core.specs.Doing.{CanDo};
 ghost use Rattle.ns_machine_core.specs.Straight.{IsOnTop};
 ghost use Rattle.ns_machine_core.specs.Tried.{LeadsOrChangesNothing};
+ghost use Rattle.ns_machine_quick.specs.Booleans.{LeadsOrNothing};
+ghost use Rattle.ns_machine_quick.specs.Integers.{DoesOrNothing};
 ghost use Rattle.ns_machine_quick.specs.Opening.{IsMemberAbove};
 ghost use Rattle.ns_machine_turns.specs.Above.{HasMemberAbove};
+ghost use Rattle.ns_machine_turns.specs.Sent.{row_spelled};
 
 use ns_code::program::CodeProgram;
 use ns_machine_core::blocks::push_block;
 use ns_machine_core::leaping::{jump, jump_false, jump_true};
-use ns_machine_core::led::{Led, led_on, led_straight};
+use ns_machine_core::led::{Led, led_charged, led_on, led_straight};
 use ns_machine_core::locals::{push_local_of, store_local_of};
 use ns_machine_core::on_top::OnTop;
 use ns_machine_core::pushing::{
@@ -36,7 +38,7 @@ use ns_machine_quick::private::send_private;
 use ns_machine_quick::texts::send_text;
 use ns_machine_returns::answering::{return_self, return_value};
 use ns_machine_returns::unwinding::return_home;
-use ns_world::kernel_parts::{DataRow, IntRow, KMethod};
+use ns_world::kernel_parts::DataRow;
 
 /// Does a step, behind which the registers stand, where it is one of those that are taken most; else nothing is done. Those that
 /// lead straight on come first.
@@ -79,73 +81,95 @@ pub fn perform(
         Packed::Jump(target) => jump(code, core, at, *target),
         Packed::JumpFalse(target) => jump_false(code, core, at, *target),
         Packed::JumpTrue(target) => jump_true(code, core, at, *target),
-        Packed::Send(send) => send_found(code, core, at, tables.send(*send)),
-        Packed::SendInteger { row, send } => {
-            send_to_integer(code, core, at, tables.send(*send), *row)
-        }
-        Packed::SendBoolean { method, send } => {
-            send_to_boolean(code, core, at, tables.send(*send), *method)
-        }
-        Packed::SendArray { row, send } => {
-            send_to_array(code, core, at, tables.send(*send), *row)
-        }
         Packed::SendPrivate(send) => send_around(code, core, at, tables.private(*send)),
         Packed::Return => return_value(code, core, at),
         Packed::ReturnSelf => return_self(code, core, at),
         Packed::ReturnHome => led_on(return_home(code, core, at)),
-        _ => Led::Nowhere,
+        _ => send_to_value(code, core, at, step),
     }
 }
 
-/// Sends to the operand below the arguments: by a row of Integer that the selector spells, if the operand is an Integer to which
-/// the row gives a value; else by what is found.
+/// Sends to the operand below the arguments, where the step does so. It is the one place from which the loop of a body sends what
+/// is found, so that this stands in the loop: code with more than one caller would be called when it is as large.
 #[inline(always)]
-fn send_to_integer(
-    code: &CodeProgram,
-    core: &mut Core,
-    at: Registers,
-    send: &ValueSend,
-    row: IntRow,
-) -> Led
-    requires can { CanDo code.now core.old at (send_instr send.now.kind send.now.sel send.now.argc) }
-    requires row { row_of_send code.now send.now.sel ≡ Some row }
-    ensures { LeadsOrChangesNothing code.now (send_instr send.now.kind send.now.sel send.now.argc)
-        (slice_get core.old.places send.now.place) core.old at core.new result }
+fn send_to_value(code: &CodeProgram, core: &mut Core, at: Registers, step: KeptStep<'_>) -> Led
+    requires there { EntryIsThere step.tables.now step.packed.now }
+    requires can { CanDo code.now core.old at (instr_of (step_in step)) }
+    requires member { HasMemberAbove code.now core.old.stack.frames.items (step_in step) }
+    ensures { LeadsOrChangesNothing code.now (instr_of (step_in step.entry))
+        (place_of core.old.places (step_in step.entry)) core.old at core.new result }
 {
-    match send_integer(
-        code, core, at, send.sel, send.argc, send.kind, send.place, row,
-    ) {
-        Some(to) => Led::Charged(to),
-        None => send_otherwise(code, core, at, send),
+    match value_send(step) {
+        Some(send) => send_as_spelled(code, core, at, step.packed, send),
+        None => Led::Nowhere,
     }
 }
 
-/// The same by a method of Boolean.
+/// The send of a step that sends to a value.
 #[inline(always)]
-fn send_to_boolean(
+fn value_send<'a>(step: KeptStep<'a>) -> Option<&'a ValueSend>
+    requires { EntryIsThere step.tables.now step.packed.now }
+    ensures { IfSome result (λ send. step_in step.entry ≡ value_send (row_spelled step.entry.packed.now) send.now) }
+{
+    match step.packed {
+        Packed::Send(send) => Some(step.tables.send(*send)),
+        Packed::SendInteger { send, .. } => Some(step.tables.send(*send)),
+        Packed::SendBoolean { send, .. } => Some(step.tables.send(*send)),
+        Packed::SendArray { send, .. } => Some(step.tables.send(*send)),
+        _ => None,
+    }
+}
+
+/// Sends by the row that the selector spells, if that does it; else by what is found.
+#[inline(always)]
+fn send_as_spelled(
     code: &CodeProgram,
     core: &mut Core,
     at: Registers,
-    send: &ValueSend,
-    method: KMethod,
+    packed: &Packed,
+    found: &ValueSend,
 ) -> Led
-    requires can { CanDo code.now core.old at (send_instr send.now.kind send.now.sel send.now.argc) }
-    requires method { method_of_send code.now send.now.sel ≡ Some method }
-    ensures { LeadsOrChangesNothing code.now (send_instr send.now.kind send.now.sel send.now.argc)
-        (slice_get core.old.places send.now.place) core.old at core.new result }
+    requires can { CanDo code.now core.old at (send_instr found.now.kind found.now.sel found.now.argc) }
+    requires spelled { spelled_by code.now found.now.sel ≡ row_spelled packed.now }
+    ensures { LeadsOrChangesNothing code.now (send_instr found.now.kind found.now.sel found.now.argc)
+        (slice_get core.old.places found.now.place) core.old at core.new result }
 {
-    match send_boolean(
-        code, core, at, send.sel, send.argc, send.kind, send.place, method,
-    ) {
+    match send_by_row(code, core, at, packed, found) {
         Led::Straight(to) => Led::Straight(to),
         Led::Charged(to) => Led::Charged(to),
         Led::On(to) => Led::On(to),
         Led::Answered(to) => Led::Answered(to),
-        Led::Nowhere => send_otherwise(code, core, at, send),
+        Led::Nowhere => send(code, core, at, found),
     }
 }
 
-/// The same by a row of Array.
+/// Sends by the row that the selector spells: of Integer, of Boolean, or of Array and String.
+#[inline(always)]
+fn send_by_row(
+    code: &CodeProgram,
+    core: &mut Core,
+    at: Registers,
+    packed: &Packed,
+    send: &ValueSend,
+) -> Led
+    requires can { CanDo code.now core.old at (send_instr send.now.kind send.now.sel send.now.argc) }
+    requires spelled { spelled_by code.now send.now.sel ≡ row_spelled packed.now }
+    ensures { LeadsOrNothing code.now (send_instr send.now.kind send.now.sel send.now.argc)
+        (slice_get core.old.places send.now.place) core.old at core.new result }
+{
+    match packed {
+        Packed::SendInteger { row, .. } => led_charged(send_integer(
+            code, core, at, send.sel, send.argc, send.kind, send.place, *row,
+        )),
+        Packed::SendBoolean { method, .. } => send_boolean(
+            code, core, at, send.sel, send.argc, send.kind, send.place, *method,
+        ),
+        Packed::SendArray { row, .. } => led_charged(send_to_array(code, core, at, send, *row)),
+        _ => Led::Nowhere,
+    }
+}
+
+/// Sends by a row of Array, or else by the row of String that has the same selector.
 #[inline(always)]
 fn send_to_array(
     code: &CodeProgram,
@@ -153,44 +177,22 @@ fn send_to_array(
     at: Registers,
     send: &ValueSend,
     row: DataRow,
-) -> Led
+) -> Option<Registers>
     requires can { CanDo code.now core.old at (send_instr send.now.kind send.now.sel send.now.argc) }
     requires row { array_row_of_send code.now send.now.sel ≡ Some row }
-    ensures { LeadsOrChangesNothing code.now (send_instr send.now.kind send.now.sel send.now.argc)
+    ensures { DoesOrNothing code.now (send_instr send.now.kind send.now.sel send.now.argc)
         (slice_get core.old.places send.now.place) core.old at core.new result }
 {
     match send_array(
         code, core, at, send.sel, send.argc, send.kind, send.place, row,
     ) {
-        Some(to) => Led::Charged(to),
-        None => send_to_text(code, core, at, send, row),
+        Some(to) => Some(to),
+        None => send_text_apart(code, core, at.next, at.top, at.base, send, row),
     }
 }
 
-/// The same to what is no Array: told again, case by case, as by `send_otherwise`.
-#[inline(always)]
-fn send_to_text(
-    code: &CodeProgram,
-    core: &mut Core,
-    at: Registers,
-    send: &ValueSend,
-    row: DataRow,
-) -> Led
-    requires can { CanDo code.now core.old at (send_instr send.now.kind send.now.sel send.now.argc) }
-    requires row { array_row_of_send code.now send.now.sel ≡ Some row }
-    ensures { LeadsOrChangesNothing code.now (send_instr send.now.kind send.now.sel send.now.argc)
-        (slice_get core.old.places send.now.place) core.old at core.new result }
-{
-    match send_text_apart(code, core, at.next, at.top, at.base, send, row) {
-        Led::Straight(to) => Led::Straight(to),
-        Led::Charged(to) => Led::Charged(to),
-        Led::On(to) => Led::On(to),
-        Led::Answered(to) => Led::Answered(to),
-        Led::Nowhere => Led::Nowhere,
-    }
-}
-
-/// Sends by the row of String that has that selector, or by what is found, in code of its own.
+/// Sends by a row of String, in code of its own. The registers are handed over one by one, so that they needn't stand in memory
+/// before any step.
 #[inline(never)]
 fn send_text_apart(
     code: &CodeProgram,
@@ -200,66 +202,23 @@ fn send_text_apart(
     base: u32,
     send: &ValueSend,
     row: DataRow,
-) -> Led
+) -> Option<Registers>
     requires can { CanDo code.now core.old (record { next = next; top = top; base = base })
         (send_instr send.now.kind send.now.sel send.now.argc) }
     requires row { array_row_of_send code.now send.now.sel ≡ Some row }
-    ensures { LeadsOrChangesNothing code.now (send_instr send.now.kind send.now.sel send.now.argc)
+    ensures { DoesOrNothing code.now (send_instr send.now.kind send.now.sel send.now.argc)
         (slice_get core.old.places send.now.place) core.old (record { next = next; top = top; base = base }) core.new result }
 {
-    let at = Registers { next, top, base };
-    match send_text(
-        code, core, at, send.sel, send.argc, send.kind, send.place, row,
-    ) {
-        Some(to) => Led::Charged(to),
-        None => send_apart(code, core, next, top, base, send),
-    }
-}
-
-/// Sends to the operand below the arguments by what is found.
-#[inline(always)]
-fn send_found(code: &CodeProgram, core: &mut Core, at: Registers, found: &ValueSend) -> Led
-    requires { CanDo code.now core.old at (send_instr found.now.kind found.now.sel found.now.argc) }
-    ensures { LeadsOrChangesNothing code.now (send_instr found.now.kind found.now.sel found.now.argc)
-        (slice_get core.old.places found.now.place) core.old at core.new result }
-{
-    send(code, core, at, found)
-}
-
-/// The same where its row doesn't do it.
-// The answer is told again, case by case, so that it is built in the caller's registers: handed on as it is, it would
-// come back through memory, on the way of every send.
-#[inline(always)]
-fn send_otherwise(code: &CodeProgram, core: &mut Core, at: Registers, found: &ValueSend) -> Led
-    requires { CanDo code.now core.old at (send_instr found.now.kind found.now.sel found.now.argc) }
-    ensures { LeadsOrChangesNothing code.now (send_instr found.now.kind found.now.sel found.now.argc)
-        (slice_get core.old.places found.now.place) core.old at core.new result }
-{
-    match send_apart(code, core, at.next, at.top, at.base, found) {
-        Led::Straight(to) => Led::Straight(to),
-        Led::Charged(to) => Led::Charged(to),
-        Led::On(to) => Led::On(to),
-        Led::Answered(to) => Led::Answered(to),
-        Led::Nowhere => Led::Nowhere,
-    }
-}
-
-/// The same in code of its own. The registers are handed over one by one, so that they needn't stand in memory before any step.
-#[inline(never)]
-fn send_apart(
-    code: &CodeProgram,
-    core: &mut Core,
-    next: u32,
-    top: u32,
-    base: u32,
-    found: &ValueSend,
-) -> Led
-    requires { CanDo code.now core.old (record { next = next; top = top; base = base })
-        (send_instr found.now.kind found.now.sel found.now.argc) }
-    ensures { LeadsOrChangesNothing code.now (send_instr found.now.kind found.now.sel found.now.argc)
-        (slice_get core.old.places found.now.place) core.old (record { next = next; top = top; base = base }) core.new result }
-{
-    send(code, core, Registers { next, top, base }, found)
+    send_text(
+        code,
+        core,
+        Registers { next, top, base },
+        send.sel,
+        send.argc,
+        send.kind,
+        send.place,
+        row,
+    )
 }
 
 /// Sends to the private member that the step has.

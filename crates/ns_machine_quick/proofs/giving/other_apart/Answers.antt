@@ -15,4 +15,4 @@ is_block-requires c =
 pub returns : goal.returns
 returns c =
     let at : Registers = record { next = c.args.next; top = c.args.top; base = c.args.base } in
-    below_kept c.args.code.now c.args.core.now at c.args.send.now c.found_of-found.new.run c.found_of-found.ensures.rest c.do_found.new.core c.do_found.result c.do_found.ensures
+    below_kept c.args.code.now c.args.core.now at c.args.send.now c.found_of-found.new.run c.found_of-found.ensures.rest c.do_other.new.core c.do_other.result c.do_other.ensures

@@ -1,12 +1,9 @@
-use Rattle.std.proofs.Common.{Some, None, refl, rules, w32, w64, SFits, ap, subst, to_z-of_z, ◌∙◌}
+use Rattle.std.proofs.Common.{None, refl, rules, w32, w64, SFits, ap, subst, to_z-of_z, ◌∙◌}
 use Rattle.ns_code.specs.declared.instruction.Instr.TheVariants as instr
 use Rattle.ns_machine_core.specs.laws.Straight.{plain_straight, tried_straight, tried_on}
-use Rattle.ns_machine_plan.specs.declared.step.SpelledRow.TheVariants.{Integer, Boolean, Array}
 use Rattle.ns_machine_plan.specs.declared.step.Step.{Step}
-use Rattle.ns_machine_plan.specs.laws.Spelled.{integer_spelled, boolean_spelled, array_spelled}
 use Rattle.ns_machine_plan.specs.Packed.{unpacked}
 use Rattle.ns_machine_plan.specs.Steps.{HasItsMember}
-use Rattle.ns_machine_turns.proofs.Rowed.{can_send, row_spelled, send_leads}
 use Rattle.ns_machine_turns.proofs.performing.perform.Goals as goal
 
 -- ---- plain steps, which lead straight on
@@ -110,75 +107,6 @@ pub returns-in-ReturnHome : goal.returns-in-ReturnHome
 returns-in-ReturnHome c =
     rw (c.in-ReturnHome.is, c.led_on.ensures)
     (tried_on c.args.code.now instr.ReturnHome None c.args.core.now c.args.at c.return_home.new.core c.return_home.result (c.return_home.ensures None))
-
--- by what is found
-
-pub send_found-requires : goal.send_found-requires
-send_found-requires c =
-    can_send c.args.code.now c.args.core.now c.args.at c.args.step.tables.now c.args.step.packed.now None c.in-Send.send c.send.result.now
-    (ap (unpacked c.args.step.tables.now) c.in-Send.is) c.send.ensures c.requires.can
-
-pub returns-in-Send : goal.returns-in-Send
-returns-in-Send c =
-    send_leads c.args.code.now c.args.core.now c.args.at c.args.step.tables.now c.args.step.packed.now None c.in-Send.send c.send.result.now
-    (ap (unpacked c.args.step.tables.now) c.in-Send.is) c.send.ensures c.send_found.new.core c.send_found.result c.send_found.ensures
-
--- by a row of Integer
-
-pub send_to_integer-requires-clause-can : goal.send_to_integer-requires-clause-can
-send_to_integer-requires-clause-can c =
-    can_send c.args.code.now c.args.core.now c.args.at c.args.step.tables.now c.args.step.packed.now (Some (Integer c.in-SendInteger.row)) c.in-SendInteger.send
-    c.send-in-SendInteger.result.now (ap (unpacked c.args.step.tables.now) c.in-SendInteger.is) c.send-in-SendInteger.ensures c.requires.can
-
-pub send_to_integer-requires-clause-row : goal.send_to_integer-requires-clause-row
-send_to_integer-requires-clause-row c =
-    integer_spelled c.args.code.now c.send-in-SendInteger.result.now.sel c.in-SendInteger.row
-    (row_spelled c.args.code.now c.args.core.now c.args.at c.args.step.tables.now c.args.step.packed.now (Some (Integer c.in-SendInteger.row)) c.in-SendInteger.send
-    c.send-in-SendInteger.result.now (ap (unpacked c.args.step.tables.now) c.in-SendInteger.is) c.send-in-SendInteger.ensures c.requires.can c.requires.member)
-
-pub returns-in-SendInteger : goal.returns-in-SendInteger
-returns-in-SendInteger c =
-    send_leads c.args.code.now c.args.core.now c.args.at c.args.step.tables.now c.args.step.packed.now (Some (Integer c.in-SendInteger.row)) c.in-SendInteger.send
-    c.send-in-SendInteger.result.now (ap (unpacked c.args.step.tables.now) c.in-SendInteger.is) c.send-in-SendInteger.ensures c.send_to_integer.new.core
-    c.send_to_integer.result c.send_to_integer.ensures
-
--- by a method of Boolean
-
-pub send_to_boolean-requires-clause-can : goal.send_to_boolean-requires-clause-can
-send_to_boolean-requires-clause-can c =
-    can_send c.args.code.now c.args.core.now c.args.at c.args.step.tables.now c.args.step.packed.now (Some (Boolean c.in-SendBoolean.method)) c.in-SendBoolean.send
-    c.send-in-SendBoolean.result.now (ap (unpacked c.args.step.tables.now) c.in-SendBoolean.is) c.send-in-SendBoolean.ensures c.requires.can
-
-pub send_to_boolean-requires-clause-method : goal.send_to_boolean-requires-clause-method
-send_to_boolean-requires-clause-method c =
-    boolean_spelled c.args.code.now c.send-in-SendBoolean.result.now.sel c.in-SendBoolean.method
-    (row_spelled c.args.code.now c.args.core.now c.args.at c.args.step.tables.now c.args.step.packed.now (Some (Boolean c.in-SendBoolean.method)) c.in-SendBoolean.send
-    c.send-in-SendBoolean.result.now (ap (unpacked c.args.step.tables.now) c.in-SendBoolean.is) c.send-in-SendBoolean.ensures c.requires.can c.requires.member)
-
-pub returns-in-SendBoolean : goal.returns-in-SendBoolean
-returns-in-SendBoolean c =
-    send_leads c.args.code.now c.args.core.now c.args.at c.args.step.tables.now c.args.step.packed.now (Some (Boolean c.in-SendBoolean.method)) c.in-SendBoolean.send
-    c.send-in-SendBoolean.result.now (ap (unpacked c.args.step.tables.now) c.in-SendBoolean.is) c.send-in-SendBoolean.ensures c.send_to_boolean.new.core
-    c.send_to_boolean.result c.send_to_boolean.ensures
-
--- by a row of Array
-
-pub send_to_array-requires-clause-can : goal.send_to_array-requires-clause-can
-send_to_array-requires-clause-can c =
-    can_send c.args.code.now c.args.core.now c.args.at c.args.step.tables.now c.args.step.packed.now (Some (Array c.in-SendArray.row)) c.in-SendArray.send
-    c.send-in-SendArray.result.now (ap (unpacked c.args.step.tables.now) c.in-SendArray.is) c.send-in-SendArray.ensures c.requires.can
-
-pub send_to_array-requires-clause-row : goal.send_to_array-requires-clause-row
-send_to_array-requires-clause-row c =
-    array_spelled c.args.code.now c.send-in-SendArray.result.now.sel c.in-SendArray.row
-    (row_spelled c.args.code.now c.args.core.now c.args.at c.args.step.tables.now c.args.step.packed.now (Some (Array c.in-SendArray.row)) c.in-SendArray.send
-    c.send-in-SendArray.result.now (ap (unpacked c.args.step.tables.now) c.in-SendArray.is) c.send-in-SendArray.ensures c.requires.can c.requires.member)
-
-pub returns-in-SendArray : goal.returns-in-SendArray
-returns-in-SendArray c =
-    send_leads c.args.code.now c.args.core.now c.args.at c.args.step.tables.now c.args.step.packed.now (Some (Array c.in-SendArray.row)) c.in-SendArray.send
-    c.send-in-SendArray.result.now (ap (unpacked c.args.step.tables.now) c.in-SendArray.is) c.send-in-SendArray.ensures c.send_to_array.new.core
-    c.send_to_array.result c.send_to_array.ensures
 
 -- to a private member
 
