@@ -1,4 +1,4 @@
--- A block, and then those in it; and the blocks in an operand.
+-- A block, and then those in it; and the blocks in an expression with less around it.
 use Rattle.std.proofs.Common.{◌≡◌, ◌∙◌, ℕ, ◌+◌, List, [], ◌∷◌, ◌++◌, length, ap, append-nil, arith}
 use Rattle.ns_tree.specs.declared.tree.Named.{Named}
 use Rattle.ns_tree.specs.Plain as p
@@ -6,7 +6,7 @@ use Rattle.ns_scope.specs.declared.scope.Scope.{Scope}
 use Rattle.ns_scope.specs.Scopes.{block_scope}
 use Rattle.ns_scope.specs.Bodies as b
 use Rattle.ns_resolved.specs.Expressions as e
-use Rattle.ns_resolved.specs.Statements.{block_bodies, statements_bodies, expr_bodies, un_bodies}
+use Rattle.ns_resolved.specs.Statements.{block_bodies, statements_bodies, expr_bodies, keys_bodies, bin_bodies, un_bodies}
 use Rattle.ns_gen_bodies.specs.Heading.{block_in}
 use Rattle.ns_gen_bodies.specs.Coding.{Coded, with_one, with_bodies}
 use Rattle.ns_gen.specs.Inner.{inside_bodies}
@@ -56,7 +56,7 @@ pub bare_number : (here : e.Standing) (next next' last : ℕ) (body : p.Statemen
     last ≡ next + length (b.block_blocks here.scope (p.block_with [] p.no_bars body))
 bare_number here next next' last body scope seen one two = block_number here next next' last [] p.no_bars body scope seen one two
 
--- ---- an operand alone
+-- ---- with nothing around
 
 pub operand_blocks : (scope : Scope) (un : p.UnExpr) →
     b.expr_blocks scope (p.expr_with [] (p.sent (p.bin_with un p.no_opers) p.no_keys) p.no_messages) ≡ b.un_blocks scope un
@@ -69,3 +69,19 @@ pub operand_bodies : (here : e.Standing) (next : ℕ) (un : p.UnExpr) →
 operand_bodies here next un =
     let bodies = un_bodies here next un in
     append-nil ((bodies ++ []) ++ []) ∙ append-nil (bodies ++ []) ∙ append-nil bodies
+
+pub operation_blocks : (scope : Scope) (bin : p.BinExpr) →
+    b.expr_blocks scope (p.expr_with [] (p.sent bin p.no_keys) p.no_messages) ≡ b.bin_blocks scope bin
+operation_blocks scope bin = append-nil (b.bin_blocks scope bin ++ []) ∙ append-nil (b.bin_blocks scope bin)
+
+pub operation_bodies : (here : e.Standing) (next : ℕ) (bin : p.BinExpr) →
+    expr_bodies here next (p.expr_with [] (p.sent bin p.no_keys) p.no_messages) ≡ bin_bodies here next bin
+operation_bodies here next bin = append-nil (bin_bodies here next bin ++ []) ∙ append-nil (bin_bodies here next bin)
+
+pub implicit_blocks : (scope : Scope) (keys : p.Keys) →
+    b.expr_blocks scope (p.expr_with [] (p.implicit keys) p.no_messages) ≡ b.keys_blocks scope keys
+implicit_blocks scope keys = append-nil (b.keys_blocks scope keys)
+
+pub implicit_bodies : (here : e.Standing) (next : ℕ) (keys : p.Keys) →
+    expr_bodies here next (p.expr_with [] (p.implicit keys) p.no_messages) ≡ keys_bodies here next keys
+implicit_bodies here next keys = append-nil (keys_bodies here next keys)

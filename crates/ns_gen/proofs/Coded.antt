@@ -3,10 +3,11 @@ use Rattle.std.proofs.Common.{◌≡◌, ◌∙◌, ℕ, ◌+◌, List, [], ◌�
 use Rattle.std.specs.Prelude.{flat_map, Bool, true, false}
 use Rattle.ns_code.specs.declared.body.BodyCode.{BodyCode}
 use Rattle.ns_resolved.specs.Program as m
-use Rattle.ns_resolved.specs.Tables.{put_all, body_names, body_texts}
-use Rattle.ns_gen_code.specs.Code.{body_code, bodies_code}
+use Rattle.ns_resolved.specs.Tables.{put_all, body_names, body_texts, body_head}
+use Rattle.ns_gen_code.specs.Code.{body_lines, body_code, bodies_code}
 use Rattle.ns_gen_bodies.specs.Coding.{Coded, with_kept, with_bodies}
 use Rattle.ns_gen_bodies.specs.Finishing.{finished}
+use Rattle.ns_gen_bodies.specs.laws.Finishing.{finished_filled}
 use Rattle.ns_gen_bodies.specs.declared.finish.Finished.{Finished}
 use Rattle.ns_gen_bodies.specs.declared.finish.Finished.TheVariants.{Fits, TooLarge}
 use Rattle.ns_gen_draft.specs.laws.Writing.{put_more}
@@ -42,7 +43,9 @@ bodies_coded (body ∷ bodies) names texts before =
     let same : put_all own rest ≡ last = sym (put_more (body_names body) rest names) in
     let stays : code ≡ body_code last (length texts) body =
     sym (code_stays names rest (length texts) body) ∙ ap (λ n. body_code n (length texts) body) same in
-    ap (with_bodies bodies) (finished_beside before.keeps (finished code) own behind before)
+    ap (λ result. with_bodies bodies (with_kept before.keeps result (with_tables own behind before)))
+    (finished_filled own (body_head body) (body_lines (length texts) body.does))
+    ∙ ap (with_bodies bodies) (finished_beside before.keeps (finished code) own behind before)
     ∙ bodies_coded bodies own behind after
     ∙ ap (λ n. whole_of n (behind ++ flat_map body_texts bodies) (bodies_code n (length behind) bodies) after) same
     ∙ ap (λ t. whole_of last t (bodies_code last (length behind) bodies) after) (append_assoc texts (body_texts body) (flat_map body_texts bodies))

@@ -34,6 +34,8 @@ fn put_expr(
 {
     match expr {
         Expr::Operand(operand) => put_un(output, here, next, operand),
+        Expr::Operation(bin) => put_bin(output, here, next, bin),
+        Expr::Implicit(keys) => put_keys(output, here, next, keys),
         Expr::Full(full) => put_full_expr(output, here, next, full),
     }
 }
@@ -82,7 +84,7 @@ pub fn put_message(
 {
     match message {
         Message::Unary(_) => Ok(()),
-        Message::Binary(_, argument) => put_un(output, here, next, argument),
+        Message::Binary(oper) => put_un(output, here, next, &oper.1),
         Message::Keys(keys) => put_keys(output, here, next, keys),
     }
 }
@@ -164,7 +166,10 @@ fn put_un(
     ensures put { OnOk result (output.new ≡ with_bodies (un_bodies (standing here.now) next.old (un_of expr.now)) output.old) }
     ensures next { OnOk result (next.new ≡ next.old + length (un_blocks here.now.scope.now (un_of expr.now))) }
 {
-    put_primary(output, here, next, &expr.primary)
+    match expr {
+        UnExpr::Alone { at: _, primary } => put_primary(output, here, next, primary),
+        UnExpr::Sent(sent) => put_primary(output, here, next, &sent.primary),
+    }
 }
 
 #[cycle(inner)]

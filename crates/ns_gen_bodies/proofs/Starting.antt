@@ -12,7 +12,8 @@ use Rattle.ns_resolved.specs.Statements.{bars_values}
 use Rattle.ns_resolved.specs.Classes.{super_arguments}
 use Rattle.ns_resolved.specs.Tables.{node_names, nodes_names, node_texts, nodes_texts, value_of}
 use Rattle.ns_gen_code.specs.Code.{CodeLine, does, sends, plain, starts, how_many, nodes_lines, slots_lines, expressions_lines}
-use Rattle.ns_gen_draft.specs.Drafts.{Written, with_line, with_name}
+use Rattle.ns_gen_draft.specs.Drafts.{Written, filled, with_line, with_name}
+use Rattle.ns_gen_draft.specs.laws.Filling.{filled_none, filled_more}
 use Rattle.ns_gen_exprs.specs.Sending.{with_lines, with_node, with_nodes, with_message}
 use Rattle.ns_gen_bodies.specs.Valuing.{with_ended, with_values}
 use Rattle.ns_gen_bodies.specs.declared.values.Stores.TheVariants.{Slots}
@@ -30,8 +31,8 @@ nodes_put nodes line names texts rest before =
     let k = length before.texts in
     let after = rest (k + length (nodes_texts nodes)) in
     written_is _ _ _ _ _ _ (sym (put_more (nodes_names nodes) names before.names)) (append_assoc before.texts (nodes_texts nodes) texts)
-    (ap (λ n. ((before.lines ++ nodes_lines k nodes []) ++ line ∷ []) ++ rest n) (length-append before.texts (nodes_texts nodes))
-    ∙ append_assoc (before.lines ++ nodes_lines k nodes []) (line ∷ []) after
+    (ap (λ n. filled (filled (filled before.lines (nodes_lines k nodes [])) (line ∷ [])) (rest n)) (length-append before.texts (nodes_texts nodes))
+    ∙ filled_more (filled before.lines (nodes_lines k nodes [])) (line ∷ []) after
     ∙ behind_nodes nodes k before.lines (line ∷ after))
 
 slots_put : (values : List m.First) (names texts : List (List ℕ)) (rest : ℕ → List CodeLine) (before : Written) →
@@ -92,7 +93,7 @@ pub mixin_put : (scope : Scope) (head over : m.Node) (sent : m.Sent) (w0 w1 w2 w
     w2 ≡ with_node over w1 →
     w3 ≡ with_line (with_name w2 sent.selector) (sends plain sent 1) → w3 ≡ with_node (m.send head sent (e.one over)) w0
 mixin_put scope head over sent w0 w1 w2 w3 one two three =
-    let nothing : with_lines [] w1 ≡ w1 = written_is _ _ _ _ _ _ refl refl (append-nil w1.lines) in
+    let nothing : with_lines [] w1 ≡ w1 = written_is _ _ _ _ _ _ refl refl (filled_none w1.lines) in
     three
     ∙ ap (λ w. with_line (with_name w sent.selector) (sends plain sent 1)) (two ∙ ap (with_node over) (sym nothing))
     ∙ binary_put scope v.Value sent over plain w1 refl

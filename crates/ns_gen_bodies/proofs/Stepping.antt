@@ -14,7 +14,8 @@ use Rattle.ns_resolved.specs.Expressions as e
 use Rattle.ns_resolved.specs.Statements.{bars_values, step_of, list_steps}
 use Rattle.ns_resolved.specs.Tables.{put_all, node_names, node_texts, value_of, step_node}
 use Rattle.ns_gen_code.specs.Code.{CodeLine, does, node_lines, locals_lines, method_lines, block_lines}
-use Rattle.ns_gen_draft.specs.Drafts.{Written, with_line}
+use Rattle.ns_gen_draft.specs.Drafts.{Written, filled, with_line}
+use Rattle.ns_gen_draft.specs.laws.Filling.{filled_none, filled_more}
 use Rattle.ns_gen_exprs.specs.Sending.{with_lines, with_node}
 use Rattle.ns_gen_bodies.specs.Valuing.{with_ended, with_local, with_values}
 use Rattle.ns_gen_bodies.specs.declared.values.Stores.TheVariants.{Locals}
@@ -25,10 +26,10 @@ use Rattle.ns_gen_exprs.specs.laws.Composing.{behind_node}
 -- with names, literal texts, and lines that depend on the number of the first text
 abbrev pub with_all : List (List ℕ) → List (List ℕ) → (ℕ → List CodeLine) → Written → Written
 with_all names texts rest before =
-    record { names = put_all before.names names; texts = before.texts ++ texts; lines = before.lines ++ rest (length before.texts) }
+    record { names = put_all before.names names; texts = before.texts ++ texts; lines = filled before.lines (rest (length before.texts)) }
 
 all_none : (before : Written) → with_all [] [] (λ k. []) before ≡ before
-all_none before = written_is _ _ _ _ _ _ refl (append-nil before.texts) (append-nil before.lines)
+all_none before = written_is _ _ _ _ _ _ refl (append-nil before.texts) (filled_none before.lines)
 
 pub all_same : (names names' texts texts' : List (List ℕ)) (rest : ℕ → List CodeLine) (before : Written) → names ≡ names' → texts ≡ texts' →
     with_all names texts rest before ≡ with_all names' texts' rest before
@@ -43,13 +44,13 @@ node_put node ends names texts rest before =
     let k = length before.texts in
     let after = rest (k + length (node_texts node)) in
     written_is _ _ _ _ _ _ (sym (put_more (node_names node) names before.names)) (append_assoc before.texts (node_texts node) texts)
-    (ap (λ n. ((before.lines ++ node_lines k node []) ++ ends) ++ rest n) (length-append before.texts (node_texts node))
-    ∙ append_assoc (before.lines ++ node_lines k node []) ends after
+    (ap (λ n. filled (filled (filled before.lines (node_lines k node [])) ends) (rest n)) (length-append before.texts (node_texts node))
+    ∙ filled_more (filled before.lines (node_lines k node [])) ends after
     ∙ behind_node node k before.lines (ends ++ after))
 
 two_lines : (first second : CodeLine) (before : Written) →
     with_line (with_line before first) second ≡ with_lines (first ∷ second ∷ []) before
-two_lines first second before = written_is _ _ _ _ _ _ refl refl (append_assoc before.lines (first ∷ []) (second ∷ []))
+two_lines first second before = written_is _ _ _ _ _ _ refl refl (filled_more before.lines (first ∷ []) (second ∷ []))
 
 -- ---- values
 

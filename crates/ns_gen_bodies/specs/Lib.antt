@@ -4,3 +4,4 @@ pub mod Starting
 pub mod Finishing
 pub mod Heading
 pub mod Coding
+pub mod laws

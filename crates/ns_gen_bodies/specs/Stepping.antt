@@ -9,7 +9,7 @@ use Rattle.ns_resolved.specs.Expressions as e
 use Rattle.ns_resolved.specs.Statements.{bars_values, statements_steps}
 use Rattle.ns_resolved.specs.Tables.{put_all, node_names, nodes_names, node_texts, nodes_texts, step_node, gathered}
 use Rattle.ns_gen_code.specs.Code.{does, body_lines}
-use Rattle.ns_gen_draft.specs.Drafts.{Written, with_line}
+use Rattle.ns_gen_draft.specs.Drafts.{Written, filled, with_line}
 use Rattle.ns_gen_bodies.specs.Valuing.{with_ended}
 
 -- ---- methods
@@ -68,7 +68,7 @@ with_body body before =
     record {
       names = put_all before.names (gathered node_names nodes_names body);
       texts = before.texts ++ gathered node_texts nodes_texts body;
-      lines = before.lines ++ body_lines (length before.texts) body;
+      lines = filled before.lines (body_lines (length before.texts) body);
     }
 
 -- What a method or block does with these locals and statements, whose first block has that number; so many of its

@@ -12,10 +12,7 @@ use ns_code::instruction::Instr;
 use ns_code::instructions::Instructions;
 use ns_code::table::{goes_on, height_after};
 use ns_gen_code::size::SizeKind;
-use ns_gen_draft::writer::Writer;
-
-/// How many instructions a body has at most.
-const MOST: usize = 65536;
+use ns_gen_draft::writer::{MOST_LINES, Writer};
 
 /// The greatest height of a body that can run.
 const HIGHEST: u32 = 1023;
@@ -28,11 +25,11 @@ pub enum Finished {
 }
 
 /// The code of the body with this head, whose lines were written.
-#[tactic(auto, using(crate::proofs::Finishing::too_long, crate::proofs::Finishing::too_high, crate::proofs::Finishing::fits))]
+#[tactic(auto, using(crate::specs::laws::Finishing::too_long, crate::proofs::Finishing::too_high, crate::proofs::Finishing::fits))]
 pub fn finish(writer: &Writer, head: BodyCode) -> Result<Finished, NoMemory>
     ensures { IfOk result (λ done. done ≡ finished (with_code writer.now.names head writer.now.lines)) }
 {
-    if writer.line_count() > MOST {
+    if writer.line_count() > MOST_LINES {
         return Ok(Finished::TooLarge(SizeKind::Code));
     }
     let instrs = writer.instructions()?;

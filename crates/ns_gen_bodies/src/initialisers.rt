@@ -99,8 +99,8 @@ fn put_arguments(
 {
     match message {
         Message::Unary(_) => Ok(0),
-        Message::Binary(_, argument) => {
-            put_un_value(writer, here, next, argument)?;
+        Message::Binary(oper) => {
+            put_un_value(writer, here, next, &oper.1)?;
             Ok(1)
         }
         Message::Keys(keys) => {

@@ -1,9 +1,10 @@
 -- Lines read the same in a table to which a name was put.
 use Rattle.std.proofs.Common.{◌≡◌, ◌<◌, ◌≤◌, ℕ, List, [], ◌∷◌, ◌++◌, length, refl, sym, ap, ◌∙◌, subst, arith, length-append}
-use Rattle.std.specs.Prelude.{◌+◌, map, Bool, true, false, not, cond, if◌then◌else◌}
+use Rattle.std.specs.Prelude.{◌+◌, map, nat_lt, Bool, true, false, not, cond, if◌then◌else◌}
 use Rattle.std.specs.List.{slice_index_or, position_or_len, IsDistinct}
 use Rattle.std.specs.Str.{bytes_eq}
-use Rattle.std.proofs.lemmas.List.{get_or_append_left}
+use Rattle.std.proofs.lemmas.List.{get_or_append_left, length-map}
+use Rattle.std.proofs.lemmas.Bool.{ltb-true, ltb-false}
 use Rattle.std.proofs.lemmas.Option.{get_or_from_slice_get}
 use Rattle.std.proofs.lemmas.Slice.Eq.{bytes_eq-Decides}
 use Rattle.ns_base.specs.declared.selector.Sel.{Sel}
@@ -13,7 +14,9 @@ use Rattle.ns_resolved.specs.laws.Places.{has_put, name_at_place, place_below}
 use Rattle.ns_gen_code.specs.Code.{does, symbol, sends}
 use Rattle.ns_gen_draft.specs.declared.draft.Draft.{Draft}
 use Rattle.ns_gen_draft.specs.declared.draft.Draft.TheVariants as d
-use Rattle.ns_gen_draft.specs.Drafts.{line_of, way_of, IsBelow, AreBelow, written, with_line, with_name, with_text, IsNumberOf}
+use Rattle.ns_gen_code.specs.Sizes.{most}
+use Rattle.ns_gen_draft.specs.Drafts.{line_of, way_of, IsBelow, AreBelow, written, filled, with_line, with_name, with_text, with_draft, IsNumberOf}
+use Rattle.ns_gen_draft.specs.laws.Filling.{filled_one, filled_full}
 
 -- a name below the count is the same in the table with another put in
 text_stands : (names : List (List ℕ)) (name : List ℕ) (number : ℕ) → number < length names →
@@ -88,25 +91,46 @@ text_at_number names text sel e =
 
 -- ---- a line that is put
 
-pub below_push : (n : ℕ) (drafts : List Draft) (draft : Draft) → AreBelow n drafts → IsBelow n draft → AreBelow n (drafts ++ draft ∷ [])
-below_push n [] draft h one = (one, tt)
-below_push n (first ∷ drafts) draft h one = (h.0, below_push n drafts draft h.1 one)
+below_last : (n : ℕ) (drafts : List Draft) (draft : Draft) → AreBelow n drafts → IsBelow n draft → AreBelow n (drafts ++ draft ∷ [])
+below_last n [] draft h one = (one, tt)
+below_last n (first ∷ drafts) draft h one = (h.0, below_last n drafts draft h.1 one)
 
-map_push : (names : List (List ℕ)) (drafts : List Draft) (draft : Draft) →
+pub below_put : (n : ℕ) (drafts : List Draft) (draft : Draft) → AreBelow n drafts → IsBelow n draft → AreBelow n (with_draft drafts draft)
+below_put n drafts draft h one = tested (nat_lt most (length drafts)) where
+  tested : (many : Bool) → AreBelow n (if many then drafts else drafts ++ draft ∷ [])
+  tested true = h
+  tested false = below_last n drafts draft h one
+
+map_last : (names : List (List ℕ)) (drafts : List Draft) (draft : Draft) →
     map (line_of names) (drafts ++ draft ∷ []) ≡ map (line_of names) drafts ++ line_of names draft ∷ []
-map_push names [] draft = refl
-map_push names (first ∷ drafts) draft = ap (line_of names first ∷◌) (map_push names drafts draft)
+map_last names [] draft = refl
+map_last names (first ∷ drafts) draft = ap (line_of names first ∷◌) (map_last names drafts draft)
+
+-- the lines of drafts with one more
+lines_put : (names : List (List ℕ)) (drafts : List Draft) (draft : Draft) →
+    map (line_of names) (with_draft drafts draft) ≡ filled (map (line_of names) drafts) (line_of names draft ∷ [])
+lines_put names drafts draft = tested (nat_lt most (length drafts)) refl where
+  many : length (map (line_of names) drafts) ≡ length drafts
+  many = length-map drafts (line_of names)
+
+  tested : (full : Bool) → nat_lt most (length drafts) ≡ full →
+      map (line_of names) (if full then drafts else drafts ++ draft ∷ []) ≡ filled (map (line_of names) drafts) (line_of names draft ∷ [])
+  tested true e =
+      sym (filled_full (map (line_of names) drafts) (line_of names draft ∷ []) (omega (ltb-true most (length drafts) e, many, arith)))
+  tested false e =
+      map_last names drafts draft
+      ∙ sym (filled_one (map (line_of names) drafts) (line_of names draft) (omega (ltb-false most (length drafts) e, many, arith)))
 
 pub line_put : (names texts : List (List ℕ)) (drafts : List Draft) (draft : Draft) →
-    written names texts (drafts ++ draft ∷ []) ≡ with_line (written names texts drafts) (line_of names draft)
-line_put names texts drafts draft = ap (λ lines. record { names = names; texts = texts; lines = lines }) (map_push names drafts draft)
+    written names texts (with_draft drafts draft) ≡ with_line (written names texts drafts) (line_of names draft)
+line_put names texts drafts draft = ap (λ lines. record { names = names; texts = texts; lines = lines }) (lines_put names drafts draft)
 
 -- a literal text and the line that pushes it
 pub text_put : (names texts : List (List ℕ)) (drafts : List Draft) (bytes : List ℕ) (number : ℕ) → number ≡ length texts →
-    written names (texts ++ bytes ∷ []) (drafts ++ d.Does (i.PushText number) ∷ []) ≡ with_text (written names texts drafts) bytes
+    written names (texts ++ bytes ∷ []) (with_draft drafts (d.Does (i.PushText number))) ≡ with_text (written names texts drafts) bytes
 text_put names texts drafts bytes number e =
-    ap (λ lines. record { names = names; texts = texts ++ bytes ∷ []; lines = lines }) (map_push names drafts (d.Does (i.PushText number)))
-    ∙ ap (λ n. record { names = names; texts = texts ++ bytes ∷ []; lines = map (line_of names) drafts ++ does (i.PushText n) ∷ [] }) e
+    ap (λ lines. record { names = names; texts = texts ++ bytes ∷ []; lines = lines }) (lines_put names drafts (d.Does (i.PushText number)))
+    ∙ ap (λ n. record { names = names; texts = texts ++ bytes ∷ []; lines = filled (map (line_of names) drafts) (does (i.PushText n) ∷ []) }) e
 
 -- the empty table
 pub table_distinct : NoRepeats []

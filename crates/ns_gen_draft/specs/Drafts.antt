@@ -1,5 +1,5 @@
 -- What is seen of lines that were written: each with the text of its selector; and what a writer holds.
-use Rattle.std.specs.Prelude.{◌≡◌, ◌<◌, ℕ, ◌+◌, List, [], ◌∷◌, ◌++◌, length, map, Option, Some, None}
+use Rattle.std.specs.Prelude.{◌≡◌, ◌<◌, ℕ, ◌+◌, ◌-◌, List, [], ◌∷◌, ◌++◌, length, map, take, nat_lt, Option, Some, None, if◌then◌else◌}
 use Rattle.std.specs.List.{slice_index_or}
 use Rattle.ns_base.specs.declared.place.Place.{Place}
 use Rattle.ns_base.specs.declared.selector.Sel.{Sel}
@@ -7,6 +7,7 @@ use Rattle.ns_base.specs.Names.{put_in}
 use Rattle.ns_code.specs.declared.instruction.Instr.{Instr}
 use Rattle.ns_code.specs.declared.instruction.Instr.TheVariants as i
 use Rattle.ns_gen_code.specs.Code.{CodeLine, Way, plain, inner, private_at, super, does, symbol, sends, starts}
+use Rattle.ns_gen_code.specs.Sizes.{most}
 use Rattle.ns_gen_draft.specs.declared.draft.Draft.{Draft}
 use Rattle.ns_gen_draft.specs.declared.draft.Draft.TheVariants as d
 use Rattle.ns_gen_draft.specs.declared.draft.SendWay.{SendWay}
@@ -46,9 +47,13 @@ abbrev pub AreBelow : ℕ → List Draft → Type 0
 AreBelow count [] = Unit {0}
 AreBelow count (draft ∷ drafts) = IsBelow count draft × AreBelow count drafts
 
+-- Lines with more behind them. No more are kept than tell that a body has too many.
+unfoldable pub filled : List CodeLine → List CodeLine → List CodeLine
+filled lines more = lines ++ take (most + 1 - length lines) more
+
 -- with a further line
 abbrev pub with_line : Written → CodeLine → Written
-with_line before line = record before { lines = before.lines ++ line ∷ [] }
+with_line before line = record before { lines = filled before.lines (line ∷ []) }
 
 -- with a name in the table
 abbrev pub with_name : Written → List ℕ → Written
@@ -57,7 +62,11 @@ with_name before name = record before { names = put_in before.names name }
 -- with a further literal text, which is pushed
 abbrev pub with_text : Written → List ℕ → Written
 with_text before bytes =
-    record before { texts = before.texts ++ bytes ∷ []; lines = before.lines ++ does (i.PushText (length before.texts)) ∷ [] }
+    record before { texts = before.texts ++ bytes ∷ []; lines = filled before.lines (does (i.PushText (length before.texts)) ∷ []) }
+
+-- drafts with one more, unless they tell that a body has too many lines
+abbrev pub with_draft : List Draft → Draft → List Draft
+with_draft drafts draft = if nat_lt most (length drafts) then drafts else drafts ++ draft ∷ []
 
 -- with a body begun, which has no line yet
 abbrev pub without_lines : Written → Written

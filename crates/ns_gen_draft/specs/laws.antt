@@ -3,3 +3,4 @@ pub mod Keywords
 pub mod Numbers
 pub mod Writing
 pub mod BlockCounts
+pub mod Filling

@@ -58,6 +58,8 @@ fn count_expr(count: &mut u32, expr: &Expr) -> Result<(), NoMemory>
 {
     match expr {
         Expr::Operand(operand) => count_un(count, operand),
+        Expr::Operation(bin) => count_bin(count, bin),
+        Expr::Implicit(keys) => count_keys(count, keys),
         Expr::Full(full) => count_full_expr(count, full),
     }
 }
@@ -86,7 +88,7 @@ pub fn count_message(count: &mut u32, message: &Message) -> Result<(), NoMemory>
 {
     match message {
         Message::Unary(_) => Ok(()),
-        Message::Binary(_, argument) => count_un(count, argument),
+        Message::Binary(oper) => count_un(count, &oper.1),
         Message::Keys(keys) => count_keys(count, keys),
     }
 }
@@ -136,7 +138,10 @@ fn count_opers(count: &mut u32, opers: &[(Named, UnExpr)]) -> Result<(), NoMemor
 fn count_un(count: &mut u32, expr: &UnExpr) -> Result<(), NoMemory>
     ensures { OnOk result (count.new ≡ count.old + un_count (un_of expr.now)) }
 {
-    count_primary(count, &expr.primary)
+    match expr {
+        UnExpr::Alone { at: _, primary } => count_primary(count, primary),
+        UnExpr::Sent(sent) => count_primary(count, &sent.primary),
+    }
 }
 
 #[cycle(counting)]

@@ -1,8 +1,8 @@
 //! The writer of a program's names, its literal texts, and the lines of one body after the other.
 
-ghost use Rattle.std.specs.Prelude.{◌≡◌, ◌<◌, ◌^◌, ◌++◌, [], OnOk, IfOk, length, map};
+ghost use Rattle.std.specs.Prelude.{◌≡◌, ◌<◌, ◌^◌, ◌++◌, [], OnOk, OnErr, IfOk, length, map};
 ghost use Rattle.ns_gen_code.specs.Code.{does, symbol, sends, starts, instr_of, places_from};
-ghost use Rattle.ns_gen_draft.specs.Drafts.{with_line, with_name, with_text, without_lines, way_of, line_of, IsBelow, IsNumberOf, instruction, draft_places};
+ghost use Rattle.ns_gen_draft.specs.Drafts.{with_line, with_name, with_text, with_draft, without_lines, way_of, line_of, IsBelow, IsNumberOf, instruction, draft_places};
 
 use crate::draft::{Draft, SendWay};
 use crate::names::Names;
@@ -16,8 +16,12 @@ use ns_code::instruction::Instr;
 use std::alloc::Global;
 use std::marker::Model;
 
+/// How many lines a body that gets code has at most.
+pub const MOST_LINES: usize = 65536;
+
 /// The tables of names and literal texts, and the lines of the body that is written. A clause sees a
-/// line with the text of its selector, so a table that grows changes no line.
+/// line with the text of its selector, so a table that grows changes no line. Of lines that are too many
+/// no more are kept than tell so, however long the body.
 #[derive(Drop)]
 pub struct Writer {
     alloc: Global,
@@ -100,7 +104,7 @@ impl Writer {
     }
 
     /// A literal text, which gets the next number.
-    #[tactic(auto, using(crate::proofs::Stand::text_put, crate::proofs::Stand::below_push))]
+    #[tactic(auto, using(crate::proofs::Stand::text_put, crate::proofs::Stand::below_put))]
     pub fn text(&mut self, bytes: &[u8]) -> Result<(), NoMemory>
         ensures put { OnOk result (self.new ≡ with_text self.old bytes.now) }
     {
@@ -109,7 +113,7 @@ impl Writer {
         };
         let text = Text::of(self.alloc, bytes)?;
         self.texts.push(text)?;
-        self.drafts.push(Draft::Does(Instr::PushText(number)))?;
+        put_draft(&mut self.drafts, Draft::Does(Instr::PushText(number)))?;
         Ok(())
     }
 
@@ -177,22 +181,34 @@ impl Writer {
         Ok(sel)
     }
 
-    #[tactic(auto, using(crate::proofs::Stand::below_push, crate::proofs::Stand::line_put))]
+    #[tactic(auto, using(crate::proofs::Stand::below_put, crate::proofs::Stand::line_put))]
     fn put(&mut self, draft: Draft) -> Result<(), NoMemory>
         requires { IsBelow (length self.old.names) draft }
         ensures put { OnOk result (self.new ≡ with_line self.old (line_of self.old.names draft)) }
     {
-        match self.drafts.push(draft) {
+        match put_draft(&mut self.drafts, draft) {
             Err(_) => Err(NoMemory),
             Ok(()) => Ok(()),
         }
     }
 }
 
+/// A further draft, unless there are too many already. After a refusal the drafts are as they were.
+fn put_draft(drafts: &mut Vec<Draft>, draft: Draft) -> Result<(), NoMemory>
+    ensures put { OnOk result (drafts.new.items ≡ with_draft drafts.old.items draft) }
+    ensures unchanged { OnErr result (drafts.new.items ≡ drafts.old.items) }
+{
+    if drafts.len() > MOST_LINES {
+        return Ok(());
+    }
+    drafts.push(draft)?;
+    Ok(())
+}
+
 fn instructions(alloc: Global, drafts: &[Draft]) -> Result<Vec<Instr>, NoMemory>
     ensures { IfOk result (λ instrs. instrs.items ≡ map instruction drafts.now) }
 {
-    let mut instrs = Vec::new(alloc);
+    let mut instrs = Vec::with_capacity(alloc, drafts.len())?;
     put_instructions(&mut instrs, drafts)?;
     Ok(instrs)
 }
@@ -210,9 +226,22 @@ fn places(alloc: Global, drafts: &[Draft]) -> Result<Vec<(u32, Place)>, NoMemory
     requires few { length drafts.now < 2 ^ 32 }
     ensures { IfOk result (λ places. places.items ≡ draft_places 0 drafts.now) }
 {
-    let mut places = Vec::new(alloc);
+    let mut places = Vec::with_capacity(alloc, place_count(drafts))?;
     put_places(&mut places, drafts)?;
     Ok(places)
+}
+
+/// How many drafts have a place. Code is kept, so it gets no more room for places than it has.
+fn place_count(drafts: &[Draft]) -> usize
+    ensures { result ≡ length (draft_places 0 drafts.now) }
+{
+    let mut count: usize = 0;
+    for draft in drafts {
+        if draft.place().is_some() {
+            count += 1;
+        }
+    }
+    count
 }
 
 fn put_places(places: &mut Vec<(u32, Place)>, drafts: &[Draft]) -> Result<(), NoMemory>

@@ -1,12 +1,12 @@
 -- An expression without a further part is what stands before that part.
 use Rattle.std.proofs.Common.{◌≡◌, ◌<◌, ℕ, List, [], ◌∷◌, ◌++◌, length, refl, ap, ◌∙◌, append-nil, length-append, arith}
 use Rattle.std.specs.Prelude.{Some}
-use Rattle.ns_tree.specs.declared.tree.BinExpr.{BinExpr, out-BinExpr}
+use Rattle.ns_tree.specs.declared.tree.BinExpr.{BinExpr}
 use Rattle.ns_tree.specs.declared.tree.FullExpr.{FullExpr, out-FullExpr}
 use Rattle.ns_tree.specs.declared.tree.KeyExpr.{KeyExpr, out-KeyExpr}
 use Rattle.ns_tree.specs.PlainOf.{un_of, bin_of, opers_of, keys_of, key_expr_of, cascade_of, full_expr_of}
 use Rattle.ns_tree.specs.Plain as p
-use Rattle.ns_tree.specs.laws.Nodes.{bin_out, key_expr_some, full_expr_out}
+use Rattle.ns_tree.specs.laws.Nodes.{key_expr_some, full_expr_out}
 use Rattle.ns_scope.specs.declared.scope.Scope.{Scope}
 use Rattle.ns_scope.specs.Bodies as b
 use Rattle.ns_resolved.specs.Expressions as e
@@ -18,17 +18,17 @@ none_left (item ∷ items) h = absurd (omega (h, arith))
 
 -- ---- without binary messages
 
-un_alone : (bin : BinExpr) → length (out-BinExpr bin).more.items < 1 → bin_of bin ≡ p.bin_with (un_of (out-BinExpr bin).first) p.no_opers
-un_alone bin h = bin_out bin ∙ ap (λ l. p.bin_with (un_of (out-BinExpr bin).first) (opers_of l)) (none_left (out-BinExpr bin).more.items h)
+un_alone : (bin : BinExpr) → length bin.more.items < 1 → bin_of bin ≡ p.bin_with (un_of bin.first) p.no_opers
+un_alone bin h = ap (λ l. p.bin_with (un_of bin.first) (opers_of l)) (none_left bin.more.items h)
 
-pub un_alone_said : (here : e.Standing) (next : ℕ) (bin : BinExpr) → length (out-BinExpr bin).more.items < 1 →
-    e.bin_said here next (bin_of bin) ≡ e.un_said here next (un_of (out-BinExpr bin).first)
+pub un_alone_said : (here : e.Standing) (next : ℕ) (bin : BinExpr) → length bin.more.items < 1 →
+    e.bin_said here next (bin_of bin) ≡ e.un_said here next (un_of bin.first)
 un_alone_said here next bin h = ap (e.bin_said here next) (un_alone bin h)
 
-pub un_alone_counted : (scope : Scope) (bin : BinExpr) → length (out-BinExpr bin).more.items < 1 →
-    length (b.bin_blocks scope (bin_of bin)) ≡ length (b.un_blocks scope (un_of (out-BinExpr bin).first))
+pub un_alone_counted : (scope : Scope) (bin : BinExpr) → length bin.more.items < 1 →
+    length (b.bin_blocks scope (bin_of bin)) ≡ length (b.un_blocks scope (un_of bin.first))
 un_alone_counted scope bin h =
-    ap (λ x. length (b.bin_blocks scope x)) (un_alone bin h) ∙ omega (length-append (b.un_blocks scope (un_of (out-BinExpr bin).first)) [], arith)
+    ap (λ x. length (b.bin_blocks scope x)) (un_alone bin h) ∙ omega (length-append (b.un_blocks scope (un_of bin.first)) [], arith)
 
 -- ---- without keys
 
@@ -62,10 +62,24 @@ key_alone_counted scope expr h =
     ap (λ x. length (b.expr_blocks scope x)) (key_alone expr h)
     ∙ omega (length-append (b.key_expr_blocks scope (key_expr_of (out-FullExpr expr).first)) [], arith)
 
--- ---- an operand alone
+-- ---- with nothing around
+
+pub operand_node : (here : e.Standing) (next : ℕ) (un : p.UnExpr) →
+    e.expr_node here next (p.expr_with [] (p.sent (p.bin_with un p.no_opers) p.no_keys) p.no_messages) ≡ e.un_node here next un
+operand_node here next (p.un_with at primary names) = refl
 
 pub operand_counted : (scope : Scope) (un : p.UnExpr) →
     length (b.expr_blocks scope (p.expr_with [] (p.sent (p.bin_with un p.no_opers) p.no_keys) p.no_messages)) ≡ length (b.un_blocks scope un)
 operand_counted scope un =
     let blocks = b.un_blocks scope un in
     ap length (append-nil ((blocks ++ []) ++ []) ∙ append-nil (blocks ++ []) ∙ append-nil blocks)
+
+pub operation_counted : (scope : Scope) (bin : p.BinExpr) →
+    length (b.expr_blocks scope (p.expr_with [] (p.sent bin p.no_keys) p.no_messages)) ≡ length (b.bin_blocks scope bin)
+operation_counted scope bin =
+    let blocks = b.bin_blocks scope bin in
+    ap length (append-nil (blocks ++ []) ∙ append-nil blocks)
+
+pub implicit_counted : (scope : Scope) (keys : p.Keys) →
+    length (b.expr_blocks scope (p.expr_with [] (p.implicit keys) p.no_messages)) ≡ length (b.keys_blocks scope keys)
+implicit_counted scope keys = ap length (append-nil (b.keys_blocks scope keys))

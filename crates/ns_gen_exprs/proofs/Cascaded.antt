@@ -12,7 +12,8 @@ use Rattle.ns_resolved.specs.Program as m
 use Rattle.ns_resolved.specs.Expressions as e
 use Rattle.ns_resolved.specs.Tables.{put_all, node_names, nodes_names, node_texts, nodes_texts, messages_names, messages_texts}
 use Rattle.ns_gen_code.specs.Code.{CodeLine, does, sends, plain, how_many, node_lines, nodes_lines, messages_lines}
-use Rattle.ns_gen_draft.specs.Drafts.{Written}
+use Rattle.ns_gen_draft.specs.Drafts.{Written, filled}
+use Rattle.ns_gen_draft.specs.laws.Filling.{filled_more}
 use Rattle.ns_gen_exprs.specs.Sending.{with_node, with_message}
 use Rattle.ns_gen_exprs.specs.Cascading.{with_messages, with_pop, with_copy, with_copies, left_of, with_rest, with_first, said_kept, is_said, is_repeated, unset_node}
 use Rattle.ns_gen_exprs.specs.declared.receiver.Receiver.{Receiver}
@@ -30,8 +31,8 @@ copies_some (suc left) receiver before h = refl
 -- ---- to a value
 
 one_line : (before : List CodeLine) (copy : CodeLine) (args rest : List CodeLine) (pop : CodeLine) (behind : List CodeLine) →
-    (((before ++ copy ∷ []) ++ args) ++ pop ∷ []) ++ behind ≡ before ++ copy ∷ (args ++ pop ∷ behind)
-one_line before copy args rest pop behind = simp append_assoc
+    filled (filled (filled (filled before (copy ∷ [])) args) (pop ∷ [])) behind ≡ filled before (copy ∷ (args ++ pop ∷ behind))
+one_line before copy args rest pop behind = simp (filled_more, append_assoc)
 
 value_step : (scope : Scope) (sent : m.Sent) (arguments : m.Nodes) (messages : m.Messages) (before : Written) →
     with_messages messages (with_pop (with_message scope v.Value sent arguments (with_copy v.Value before)))
@@ -44,10 +45,10 @@ value_step scope sent arguments messages before =
     (sym (put_more (nodes_names arguments ++ sent.selector ∷ []) (messages_names messages) before.names)
     ∙ ap (λ names. put_all before.names names) (append_assoc (nodes_names arguments) (sent.selector ∷ []) (messages_names messages)))
     (append_assoc before.texts (nodes_texts arguments) (messages_texts messages))
-    (ap (λ n. (((before.lines ++ does (i.Pick 0) ∷ []) ++ nodes_lines k arguments (send ∷ [])) ++ does i.Pop ∷ []) ++ messages_lines n messages [])
+    (ap (λ n. filled (filled (filled (filled before.lines (does (i.Pick 0) ∷ [])) (nodes_lines k arguments (send ∷ []))) (does i.Pop ∷ [])) (messages_lines n messages []))
     (length-append before.texts (nodes_texts arguments))
     ∙ one_line before.lines (does (i.Pick 0)) (nodes_lines k arguments (send ∷ [])) rest (does i.Pop) rest
-    ∙ ap (λ lines. before.lines ++ does (i.Pick 0) ∷ lines) (sym (nodes_go_on arguments k (send ∷ []) (does i.Pop ∷ rest))))
+    ∙ ap (λ lines. filled before.lines (does (i.Pick 0) ∷ lines)) (sym (nodes_go_on arguments k (send ∷ []) (does i.Pop ∷ rest))))
 
 values_put : (here : e.Standing) (next at : ℕ) (first : p.Message) (rest : p.Cascade) (message : e.Message) (before : Written) →
     with_rest here next v.Value (p.more_messages at first rest) (with_message here.scope v.Value message.sent message.arguments (with_copy v.Value before))
@@ -67,7 +68,7 @@ value_whole value messages before =
     let k = length before.texts in
     written_is _ _ _ _ _ _ (sym (put_more (node_names value) (messages_names messages) before.names))
     (append_assoc before.texts (node_texts value) (messages_texts messages))
-    (ap (λ n. (before.lines ++ node_lines k value []) ++ messages_lines n messages []) (length-append before.texts (node_texts value))
+    (ap (λ n. filled (filled before.lines (node_lines k value [])) (messages_lines n messages [])) (length-append before.texts (node_texts value))
     ∙ behind_node value k before.lines (messages_lines (k + length (node_texts value)) messages []))
 
 -- ---- to self
@@ -79,8 +80,8 @@ turn_step first then_node before =
     let rest = node_lines (k + length (node_texts first)) then_node [] in
     written_is _ _ _ _ _ _ (sym (put_more (node_names first) (node_names then_node) before.names))
     (append_assoc before.texts (node_texts first) (node_texts then_node))
-    (ap (λ n. ((before.lines ++ node_lines k first []) ++ does i.Pop ∷ []) ++ node_lines n then_node []) (length-append before.texts (node_texts first))
-    ∙ append_assoc (before.lines ++ node_lines k first []) (does i.Pop ∷ []) rest
+    (ap (λ n. filled (filled (filled before.lines (node_lines k first [])) (does i.Pop ∷ [])) (node_lines n then_node [])) (length-append before.texts (node_texts first))
+    ∙ filled_more (filled before.lines (node_lines k first [])) (does i.Pop ∷ []) rest
     ∙ behind_node first k before.lines (does i.Pop ∷ rest))
 
 turns_put : (here : e.Standing) (next at : ℕ) (first : p.Message) (rest : p.Cascade) (message : e.Message) (before : Written) →

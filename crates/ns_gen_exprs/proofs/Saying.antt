@@ -9,7 +9,7 @@ use Rattle.ns_code.specs.declared.instruction.Instr.TheVariants as i
 use Rattle.ns_scope.specs.Bodies as b
 use Rattle.ns_resolved.specs.Program as m
 use Rattle.ns_resolved.specs.Expressions as e
-use Rattle.ns_gen_draft.specs.Drafts.{Written, with_line, with_name}
+use Rattle.ns_gen_draft.specs.Drafts.{Written, filled, with_line, with_name}
 use Rattle.ns_gen_code.specs.Code.{Way, does, sends, object_lines, way_of, how_many, nodes_lines}
 use Rattle.ns_gen_draft.specs.Keys.{keys_count}
 use Rattle.ns_gen_draft.specs.laws.Writing.{written_is}
@@ -123,5 +123,5 @@ pub array_put : (here : e.Standing) (next : ℕ) (items : List Expr) (count : �
 array_put here next items count before same =
     let nodes = e.items_nodes here next (exprs_of items) in
     written_is _ _ _ _ _ _ refl refl
-    (ap (λ n. (before.lines ++ nodes_lines (length before.texts) nodes []) ++ does (i.MakeArray n) ∷ []) (same ∙ sym (items_many here next items))
+    (ap (λ n. filled (filled before.lines (nodes_lines (length before.texts) nodes [])) (does (i.MakeArray n) ∷ [])) (same ∙ sym (items_many here next items))
     ∙ behind_nodes nodes (length before.texts) before.lines (does (i.MakeArray (how_many nodes)) ∷ []))

@@ -10,7 +10,8 @@ use Rattle.ns_resolved.specs.Program as m
 use Rattle.ns_resolved.specs.Expressions as e
 use Rattle.ns_resolved.specs.Tables.{node_names}
 use Rattle.ns_gen_code.specs.Code.{CodeLine, Way, does, sends, object_lines, way_of, set_lines}
-use Rattle.ns_gen_draft.specs.Drafts.{Written, with_line, with_name}
+use Rattle.ns_gen_draft.specs.Drafts.{Written, filled, with_line, with_name}
+use Rattle.ns_gen_draft.specs.laws.Filling.{filled_more}
 use Rattle.ns_gen_draft.specs.laws.Writing.{written_is, put_more}
 use Rattle.ns_gen_exprs.specs.Sending.{meant_reach, with_lines, with_node}
 use Rattle.ns_gen_exprs.specs.Setting.{with_setter, with_set, with_sets, setter_reach, setter_sent, below}
@@ -21,8 +22,8 @@ use Rattle.ns_gen_exprs.specs.laws.Composing.{behind_node}
 -- ---- one name
 
 in_line : (before under : List CodeLine) (pick send pop : CodeLine) →
-    (((before ++ under) ++ pick ∷ []) ++ send ∷ []) ++ pop ∷ [] ≡ before ++ (under ++ pick ∷ send ∷ pop ∷ [])
-in_line before under pick send pop = simp append_assoc
+    filled (filled (filled (filled before under) (pick ∷ [])) (send ∷ [])) (pop ∷ []) ≡ filled before (under ++ pick ∷ send ∷ pop ∷ [])
+in_line before under pick send pop = simp (filled_more, append_assoc)
 
 pub setter_put : (reach : Reach) (sent : m.Sent) (way : Way) (depth : ℕ) (before : Written) → way ≡ way_of (meant_reach reach) →
     depth ≡ below reach →
@@ -31,18 +32,18 @@ pub setter_put : (reach : Reach) (sent : m.Sent) (way : Way) (depth : ℕ) (befo
 setter_put r.Own sent way depth before p q =
     written_is _ _ _ _ _ _ refl refl
     (in_line before.lines (does i.PushSelf ∷ []) (does (i.Pick depth)) (sends way sent 1) (does i.Pop)
-    ∙ ap (λ w. before.lines ++ does i.PushSelf ∷ does (i.Pick depth) ∷ sends w sent 1 ∷ does i.Pop ∷ []) p
-    ∙ ap (λ n. before.lines ++ does i.PushSelf ∷ does (i.Pick n) ∷ sends (way_of m.own) sent 1 ∷ does i.Pop ∷ []) q)
+    ∙ ap (λ w. filled before.lines (does i.PushSelf ∷ does (i.Pick depth) ∷ sends w sent 1 ∷ does i.Pop ∷ [])) p
+    ∙ ap (λ n. filled before.lines (does i.PushSelf ∷ does (i.Pick n) ∷ sends (way_of m.own) sent 1 ∷ does i.Pop ∷ [])) q)
 setter_put (r.Enclosing level) sent way depth before p q =
     written_is _ _ _ _ _ _ refl refl
     (in_line before.lines (does (i.PushOuter level) ∷ []) (does (i.Pick depth)) (sends way sent 1) (does i.Pop)
-    ∙ ap (λ w. before.lines ++ does (i.PushOuter level) ∷ does (i.Pick depth) ∷ sends w sent 1 ∷ does i.Pop ∷ []) p
-    ∙ ap (λ n. before.lines ++ does (i.PushOuter level) ∷ does (i.Pick n) ∷ sends (way_of m.own) sent 1 ∷ does i.Pop ∷ []) q)
+    ∙ ap (λ w. filled before.lines (does (i.PushOuter level) ∷ does (i.Pick depth) ∷ sends w sent 1 ∷ does i.Pop ∷ [])) p
+    ∙ ap (λ n. filled before.lines (does (i.PushOuter level) ∷ does (i.Pick n) ∷ sends (way_of m.own) sent 1 ∷ does i.Pop ∷ [])) q)
 setter_put (r.PrivateOf level) sent way depth before p q =
     written_is _ _ _ _ _ _ refl refl
     (in_line before.lines [] (does (i.Pick depth)) (sends way sent 1) (does i.Pop)
-    ∙ ap (λ w. before.lines ++ does (i.Pick depth) ∷ sends w sent 1 ∷ does i.Pop ∷ []) p
-    ∙ ap (λ n. before.lines ++ does (i.Pick n) ∷ sends (way_of (m.private_of level)) sent 1 ∷ does i.Pop ∷ []) q)
+    ∙ ap (λ w. filled before.lines (does (i.Pick depth) ∷ sends w sent 1 ∷ does i.Pop ∷ [])) p
+    ∙ ap (λ n. filled before.lines (does (i.Pick n) ∷ sends (way_of (m.private_of level)) sent 1 ∷ does i.Pop ∷ [])) q)
 
 setter_is : (reach : m.Reach) (sent : m.Sent) (value : m.Node) (before : Written) →
     with_setter reach sent (with_node value before) ≡ with_node (m.set_by_send reach sent value) before

@@ -1,6 +1,6 @@
 -- What the walks over expressions write, step by step, is the whole.
-use Rattle.std.proofs.Common.{◌≡◌, ◌<◌, ℕ, ◌+◌, List, [], ◌∷◌, length, drop, get_or, refl, ap, sym, ◌∙◌, length-append, arith}
-use Rattle.std.proofs.lemmas.List.{drop_more}
+use Rattle.std.proofs.Common.{◌≡◌, ◌<◌, ◌≤◌, ℕ, ◌+◌, List, [], ◌∷◌, length, drop, get_or, refl, ap, sym, ◌∙◌, length-append, arith}
+use Rattle.std.proofs.lemmas.List.{drop_all, drop_more}
 use Rattle.ns_base.specs.declared.place.Place.{Place}
 use Rattle.ns_tree.specs.declared.tree.Named.{Named}
 use Rattle.ns_tree.specs.declared.tree.Expr.{Expr}
@@ -22,9 +22,26 @@ use Rattle.ns_gen_exprs.specs.Setting.{with_sets}
 use Rattle.ns_gen_exprs.specs.declared.reach.Reach.{Reach}
 use Rattle.ns_gen_exprs.specs.declared.receiver.Receiver.{Receiver}
 use Rattle.ns_gen_exprs.specs.declared.receiver.Receiver.TheVariants as v
-use Rattle.ns_gen_exprs.specs.laws.Composing.{with_more, binary_put, value_is}
+use Rattle.ns_gen_exprs.specs.laws.Composing.{with_none, with_more, unary_put, binary_put, value_is}
 use Rattle.ns_gen_exprs.proofs.Saying.{opers_are, opers_kept, keywords_are, keywords_kept, keywords_put, implicit_put}
 use Rattle.ns_gen_exprs.proofs.Setting.{sets_are}
+
+-- ---- an operand as a value
+
+pub un_is : (here : e.Standing) (next : ℕ) (un : p.UnExpr) → e.as_value here (e.un_said here next un) ≡ e.un_node here next un
+un_is here next (p.un_with at primary names) = refl
+
+-- ---- unary messages
+
+pub name_put : (here : e.Standing) (receiver : Receiver) (name : Named) (place : Place) (way : SendWay) (w0 w1 : Written) →
+    place ≡ e.place_at here.marks name.at → way_of way ≡ begin_way here.scope receiver name.text →
+    w1 ≡ with_lines (begin_lines here.scope receiver name.text []) w0 →
+    with_line (with_name w1 name.text) (code.sends (way_of way) (record { selector = name.text; place = place }) 0)
+    ≡ with_message here.scope receiver (e.name_sent here name) m.no_nodes w0
+name_put here receiver name place way w0 w1 at finds one =
+    ap (λ (x : Place). with_line (with_name w1 name.text) (code.sends (way_of way) (record { selector = name.text; place = x }) 0)) at
+    ∙ ap (λ w. with_line (with_name w name.text) (code.sends (way_of way) (e.name_sent here name) 0)) one
+    ∙ unary_put here.scope receiver (e.name_sent here name) (way_of way) w0 finds
 
 -- ---- binary messages
 
@@ -132,6 +149,12 @@ keys_step here next next' k keys key writer after whole within is before one num
     ∙ ap (λ all. with_nodes (e.keys_nodes here next (keys_of all)) writer) (sym parts)
     ∙ before
 
+-- behind all keys
+pub keys_done : (here : e.Standing) (next k : ℕ) (keys : List (Named × BinExpr)) (writer whole : Written) → length keys ≤ k →
+    with_nodes (e.keys_nodes here next (keys_of (drop k keys))) writer ≡ whole → writer ≡ whole
+keys_done here next k keys writer whole behind before =
+    sym (with_none writer) ∙ ap (λ rest. with_nodes (e.keys_nodes here next (keys_of rest)) writer) (sym (drop_all k keys behind)) ∙ before
+
 pub keys_number : (here : e.Standing) (next next' k last : ℕ) (keys : List (Named × BinExpr)) (key : Named × BinExpr) → k < length keys →
     key ≡ get_or keys k key → next + length (b.keys_blocks here.scope (keys_of (drop k keys))) ≡ last →
     next' ≡ next + length (b.bin_blocks here.scope (bin_of key.1)) → next' + length (b.keys_blocks here.scope (keys_of (drop (k + 1) keys))) ≡ last
@@ -154,6 +177,12 @@ items_step here next next' k items item writer after whole within is before one 
     ∙ sym (with_more (e.expr_node here next (expr_of item)) (e.items_nodes here (next + length (b.expr_blocks here.scope (expr_of item))) rest) writer)
     ∙ ap (λ all. with_nodes (e.items_nodes here next (exprs_of all)) writer) (sym parts)
     ∙ before
+
+-- behind all items
+pub items_done : (here : e.Standing) (next k : ℕ) (items : List Expr) (writer whole : Written) → length items ≤ k →
+    with_nodes (e.items_nodes here next (exprs_of (drop k items))) writer ≡ whole → writer ≡ whole
+items_done here next k items writer whole behind before =
+    sym (with_none writer) ∙ ap (λ rest. with_nodes (e.items_nodes here next (exprs_of rest)) writer) (sym (drop_all k items behind)) ∙ before
 
 pub items_number : (here : e.Standing) (next next' k last : ℕ) (items : List Expr) (item : Expr) → k < length items →
     item ≡ get_or items k item → next + length (b.items_blocks here.scope (exprs_of (drop k items))) ≡ last →

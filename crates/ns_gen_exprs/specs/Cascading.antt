@@ -7,7 +7,7 @@ use Rattle.ns_resolved.specs.Program as m
 use Rattle.ns_resolved.specs.Expressions as e
 use Rattle.ns_resolved.specs.Tables.{put_all, messages_names, messages_texts}
 use Rattle.ns_gen_code.specs.Code.{does, messages_lines}
-use Rattle.ns_gen_draft.specs.Drafts.{Written}
+use Rattle.ns_gen_draft.specs.Drafts.{Written, filled}
 use Rattle.ns_gen_exprs.specs.Sending.{with_lines, kept, with_receiver, with_message}
 use Rattle.ns_gen_exprs.specs.declared.receiver.Receiver.{Receiver}
 use Rattle.ns_gen_exprs.specs.declared.receiver.Receiver.TheVariants as v
@@ -18,7 +18,7 @@ with_messages messages before =
     record {
       names = put_all before.names (messages_names messages);
       texts = before.texts ++ messages_texts messages;
-      lines = before.lines ++ messages_lines (length before.texts) messages [];
+      lines = filled before.lines (messages_lines (length before.texts) messages []);
     }
 
 -- with the value on top dropped

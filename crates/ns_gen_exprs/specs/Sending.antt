@@ -8,7 +8,7 @@ use Rattle.ns_resolved.specs.Program as m
 use Rattle.ns_resolved.specs.Expressions as e
 use Rattle.ns_resolved.specs.Tables.{put_all, node_names, nodes_names, node_texts, nodes_texts}
 use Rattle.ns_gen_code.specs.Code.{CodeLine, Way, sends, plain, super, how_many, object_lines, way_of, node_lines, nodes_lines}
-use Rattle.ns_gen_draft.specs.Drafts.{Written}
+use Rattle.ns_gen_draft.specs.Drafts.{Written, filled}
 use Rattle.ns_gen_exprs.specs.declared.reach.Reach.{Reach}
 use Rattle.ns_gen_exprs.specs.declared.reach.Reach.TheVariants as r
 use Rattle.ns_gen_exprs.specs.declared.receiver.Receiver.{Receiver}
@@ -24,7 +24,7 @@ meant_reach (r.PrivateOf level) = m.private_of level
 
 -- with further lines
 abbrev pub with_lines : List CodeLine → Written → Written
-with_lines lines before = record before { lines = before.lines ++ lines }
+with_lines lines before = record before { lines = filled before.lines lines }
 
 -- with a node: its names, its literal texts and its lines
 abbrev pub with_node : m.Node → Written → Written
@@ -32,7 +32,7 @@ with_node node before =
     record {
       names = put_all before.names (node_names node);
       texts = before.texts ++ node_texts node;
-      lines = before.lines ++ node_lines (length before.texts) node [];
+      lines = filled before.lines (node_lines (length before.texts) node []);
     }
 
 -- with nodes in turn
@@ -41,7 +41,7 @@ with_nodes nodes before =
     record {
       names = put_all before.names (nodes_names nodes);
       texts = before.texts ++ nodes_texts nodes;
-      lines = before.lines ++ nodes_lines (length before.texts) nodes [];
+      lines = filled before.lines (nodes_lines (length before.texts) nodes []);
     }
 
 -- ---- receivers
@@ -81,9 +81,9 @@ with_message scope receiver sent arguments before =
       names = put_all before.names (nodes_names arguments ++ sent.selector ∷ []);
       texts = before.texts ++ nodes_texts arguments;
       lines =
-          before.lines
-          ++ begin_lines scope receiver sent.selector
-          (nodes_lines (length before.texts) arguments (sends (begin_way scope receiver sent.selector) sent (how_many arguments) ∷ []));
+          filled before.lines
+          (begin_lines scope receiver sent.selector
+          (nodes_lines (length before.texts) arguments (sends (begin_way scope receiver sent.selector) sent (how_many arguments) ∷ [])));
     }
 
 -- the same with the selector and the arguments of a message

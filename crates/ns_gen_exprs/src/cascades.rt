@@ -1,7 +1,7 @@
 //! Cascades: messages to one receiver in turn.
 
 ghost use Rattle.std.specs.Prelude.{◌≡◌, ◌+◌, true, length, IfOk, OnOk};
-ghost use Rattle.ns_tree.specs.PlainOf.{full_expr_of, key_expr_of, bin_of, un_of, cascade_of, message_of};
+ghost use Rattle.ns_tree.specs.PlainOf.{full_expr_of, key_expr_of, bin_of, un_of, sent_of, cascade_of, message_of};
 ghost use Rattle.ns_scope.specs.Bodies.{expr_blocks, key_expr_blocks, bin_blocks, un_blocks, cascade_blocks, message_blocks};
 ghost use Rattle.ns_resolved.specs.Expressions.{un_said, bin_said, key_expr_said, message_said};
 ghost use Rattle.ns_gen_draft.specs.Standing.{standing};
@@ -15,7 +15,7 @@ use ns_code::instruction::Instr;
 use ns_gen_draft::here::Here;
 use ns_gen_draft::never::cannot_come;
 use ns_gen_draft::writer::Writer;
-use ns_tree::tree::{BinExpr, FullExpr, KeyExpr, Message, UnExpr};
+use ns_tree::tree::{BinExpr, FullExpr, KeyExpr, Message, SentExpr, UnExpr};
 
 /// A message of a cascade.
 #[cycle(expressions)]
@@ -32,7 +32,7 @@ fn put_message(
 {
     match message {
         Message::Unary(name) => put_name(writer, here, receiver, name),
-        Message::Binary(name, argument) => put_oper(writer, here, next, receiver, name, argument),
+        Message::Binary(oper) => put_oper(writer, here, next, receiver, &oper.0, &oper.1),
         Message::Keys(keys) => put_keywords(writer, here, next, receiver, keys),
     }
 }
@@ -72,10 +72,28 @@ fn put_first_name(
     ensures said { OnOk result (is_said (un_said (standing here.now) next.old (un_of un.now)) ≡ true) }
     ensures next { OnOk result (next.new ≡ next.old + length (un_blocks here.now.scope.now (un_of un.now))) }
 {
-    match un.names.as_slice() {
+    match un {
+        UnExpr::Alone { at: _, primary: _ } => Err(cannot_come()),
+        UnExpr::Sent(sent) => put_first_sent(writer, here, next, sent),
+    }
+}
+
+#[cycle(expressions)]
+fn put_first_sent(
+    writer: &mut Writer,
+    here: &Here<'_>,
+    next: &mut u32,
+    sent: &SentExpr,
+) -> Result<Receiver, NoMemory>
+    ensures put { OnOk result (writer.new ≡ with_first (standing here.now) (un_said (standing here.now) next.old (sent_of sent.now)) writer.old) }
+    ensures kept { IfOk result (λ receiver. receiver ≡ said_kept (un_said (standing here.now) next.old (sent_of sent.now))) }
+    ensures said { OnOk result (is_said (un_said (standing here.now) next.old (sent_of sent.now)) ≡ true) }
+    ensures next { OnOk result (next.new ≡ next.old + length (un_blocks here.now.scope.now (sent_of sent.now))) }
+{
+    match sent.names.as_slice() {
         [] => Err(cannot_come()),
         [front @ .., last] => {
-            let first = put_primary(writer, here, next, un.at, &un.primary)?;
+            let first = put_primary(writer, here, next, sent.at, &sent.primary)?;
             let receiver = put_names(writer, here, first, front)?;
             put_copy(writer, &receiver)?;
             put_name(writer, here, &receiver, last)?;

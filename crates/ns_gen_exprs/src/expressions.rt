@@ -1,7 +1,7 @@
 //! Expressions: receivers, messages to them, and their arguments.
 
 ghost use Rattle.std.specs.Prelude.{◌≡◌, ◌+◌, length, IfOk, OnOk};
-ghost use Rattle.ns_tree.specs.PlainOf.{expr_of, full_expr_of, key_expr_of, keys_of, bin_of, opers_of, un_of, primary_of, exprs_of};
+ghost use Rattle.ns_tree.specs.PlainOf.{expr_of, full_expr_of, key_expr_of, keys_of, bin_of, opers_of, un_of, sent_of, primary_of, exprs_of};
 ghost use Rattle.ns_scope.specs.Bodies.{expr_blocks, key_expr_blocks, keys_blocks, bin_blocks, opers_blocks, un_blocks, primary_blocks, items_blocks};
 ghost use Rattle.ns_resolved.specs.Program as m;
 ghost use Rattle.ns_resolved.specs.Expressions.{as_receiver, as_value, name_sent, one, un_node, un_said, bin_said};
@@ -21,11 +21,10 @@ use ns_gen_draft::here::Here;
 use ns_gen_draft::keys::{count, joined, keys_count};
 use ns_gen_draft::writer::Writer;
 use ns_tree::parts::first_key;
-use ns_tree::tree::{BinExpr, Expr, FullExpr, KeyExpr, Named, Primary, UnExpr};
+use ns_tree::tree::{BinExpr, Expr, FullExpr, KeyExpr, Named, Primary, SentExpr, UnExpr};
 
 /// A primary with its unary messages, as a receiver.
 #[cycle(expressions)]
-#[tactic(auto, using(crate::proofs::Saying::names_are, crate::proofs::Saying::names_left))]
 pub fn put_un(
     writer: &mut Writer,
     here: &Here<'_>,
@@ -36,13 +35,31 @@ pub fn put_un(
     ensures kept { IfOk result (λ receiver. receiver ≡ kept (as_receiver (standing here.now) (un_said (standing here.now) next.old (un_of un.now)))) }
     ensures next { OnOk result (next.new ≡ next.old + length (un_blocks here.now.scope.now (un_of un.now))) }
 {
-    let receiver = put_primary(writer, here, next, un.at, &un.primary)?;
-    put_names(writer, here, receiver, &un.names)
+    match un {
+        UnExpr::Alone { at, primary } => put_primary(writer, here, next, *at, primary),
+        UnExpr::Sent(sent) => put_sent(writer, here, next, sent),
+    }
+}
+
+#[cycle(expressions)]
+#[tactic(auto, using(crate::proofs::Saying::names_are, crate::proofs::Saying::names_left))]
+fn put_sent(
+    writer: &mut Writer,
+    here: &Here<'_>,
+    next: &mut u32,
+    sent: &SentExpr,
+) -> Result<Receiver, NoMemory>
+    ensures put { OnOk result (writer.new ≡ with_receiver (as_receiver (standing here.now) (un_said (standing here.now) next.old (sent_of sent.now))) writer.old) }
+    ensures kept { IfOk result (λ receiver. receiver ≡ kept (as_receiver (standing here.now) (un_said (standing here.now) next.old (sent_of sent.now)))) }
+    ensures next { OnOk result (next.new ≡ next.old + length (un_blocks here.now.scope.now (sent_of sent.now))) }
+{
+    let receiver = put_primary(writer, here, next, sent.at, &sent.primary)?;
+    put_names(writer, here, receiver, &sent.names)
 }
 
 /// A primary with its unary messages, as a value.
 #[cycle(expressions)]
-#[tactic(auto, using(crate::specs::laws::Composing::value_is))]
+#[tactic(auto, using(crate::specs::laws::Composing::value_is, crate::proofs::Walking::un_is))]
 pub fn put_un_value(
     writer: &mut Writer,
     here: &Here<'_>,
@@ -291,11 +308,13 @@ pub fn put_expr(
 {
     match expr {
         Expr::Operand(operand) => put_un_value(writer, here, next, operand),
+        Expr::Operation(bin) => put_bin_value(writer, here, next, bin),
+        Expr::Implicit(keys) => put_implicit(writer, here, next, keys),
         Expr::Full(full) => put_full_expr(writer, here, next, full),
     }
 }
 
-/// An expression that may be more than an operand.
+/// An expression of any form.
 #[cycle(expressions)]
 fn put_full_expr(
     writer: &mut Writer,

@@ -81,7 +81,7 @@ pub fn put_named(writer: &mut Writer, here: &Here<'_>, text: &Text, at: u32) -> 
 }
 
 /// A send without arguments to an object.
-#[tactic(auto, using(crate::specs::laws::Composing::object_sent))]
+#[tactic(auto, using(crate::specs::laws::Composing::object_named))]
 fn put_sent(
     writer: &mut Writer,
     here: &Here<'_>,

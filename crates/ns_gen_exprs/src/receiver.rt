@@ -30,6 +30,7 @@ pub enum Receiver {
 }
 
 /// The object under the arguments of a send; a private member needs none.
+#[tactic(auto, using(ns_gen_draft::specs::laws::Filling::filled_none))]
 pub fn put_object(writer: &mut Writer, reach: Reach) -> Result<(), NoMemory>
     ensures { OnOk result (writer.new ≡ with_lines (object_lines (meant_reach reach) []) writer.old) }
 {
@@ -60,6 +61,7 @@ pub fn begin_object(writer: &mut Writer, reach: Reach) -> Result<SendWay, NoMemo
 }
 
 /// Begins a message to a receiver.
+#[tactic(auto, using(ns_gen_draft::specs::laws::Filling::filled_none))]
 pub fn begin(
     writer: &mut Writer,
     here: &Here<'_>,

@@ -317,7 +317,7 @@ fn message_selector(alloc: Global, message: &Message) -> Result<Text, NoMemory>
 {
     match message {
         Message::Unary(name) => Text::of(alloc, name.text.bytes()),
-        Message::Binary(name, _) => Text::of(alloc, name.text.bytes()),
+        Message::Binary(oper) => Text::of(alloc, oper.0.text.bytes()),
         Message::Keys(keys) => joined(alloc, keys),
     }
 }

@@ -125,7 +125,7 @@ fn un(alloc: Global, tokens: &mut Tokens, depth: usize) -> Result<UnExpr, ParseF
     let at = tokens.at as u32;
     let primary = primary(alloc, tokens, depth)?;
     match names(alloc, tokens, Sort::Ident) {
-        Ok(names) => Ok(make::un(at, primary, names)),
+        Ok(names) => Ok(make::un(alloc, at, primary, names)?),
         Err(fault) => {
             drop(primary);
             Err(fault)
@@ -264,7 +264,7 @@ fn message(
         Ok(Message::Unary(name))
     } else if sees_name(tokens, Sort::Operator(operators)) {
         let item = oper(alloc, tokens, depth, operators)?;
-        Ok(make::binary(item.0, item.1))
+        Ok(make::binary(alloc, item)?)
     } else if sees_name(tokens, Sort::Key) {
         let keys = keys(alloc, tokens, depth, operators)?;
         Ok(make::keywords(keys))

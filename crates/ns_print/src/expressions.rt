@@ -5,7 +5,7 @@ ghost use Rattle.ns_tree.specs.Flat.{flat_expr, flat_cascade, flat_message, flat
 ghost use Rattle.ns_tree.specs.Flat.{flat_items, flat_block, flat_params, flat_bars, flat_slot, flat_init, flat_statements, flat_list, flat_statement};
 ghost use Rattle.ns_tree.specs.declared.token.Kind.TheVariants as k;
 ghost use Rattle.ns_tree.specs.Plain as p;
-ghost use Rattle.ns_tree.specs.PlainOf.{expr_of, full_expr_of, cascade_of, message_of, key_expr_of, keys_of, bin_of, opers_of, un_of, primary_of};
+ghost use Rattle.ns_tree.specs.PlainOf.{expr_of, full_expr_of, cascade_of, message_of, key_expr_of, keys_of, bin_of, opers_of, un_of, sent_of, primary_of};
 ghost use Rattle.ns_tree.specs.PlainOf.{exprs_of, block_of, slots_of, slot_of, init_of, statements_of, statement_list_of, statement_of};
 ghost use Rattle.ns_print.specs.Printed.{lines};
 
@@ -15,8 +15,8 @@ use crate::tokens::{
 };
 use ns_base::no_memory::NoMemory;
 use ns_tree::tree::{
-    BinExpr, Block, Expr, FullExpr, KeyExpr, Message, Named, Primary, Slot, SlotInit, Statement,
-    Statements, UnExpr,
+    BinExpr, Block, Expr, FullExpr, KeyExpr, Message, Named, Primary, SentExpr, Slot, SlotInit,
+    Statement, Statements, UnExpr,
 };
 
 #[cycle(expressions)]
@@ -25,6 +25,8 @@ pub fn put_expr(out: &mut Vec<u8>, expr: &Expr) -> Result<(), NoMemory>
 {
     match expr {
         Expr::Operand(operand) => put_un(out, operand),
+        Expr::Operation(bin) => put_bin(out, bin),
+        Expr::Implicit(keys) => put_keys(out, keys),
         Expr::Full(full) => put_full_expr(out, full),
     }
 }
@@ -55,13 +57,14 @@ pub fn put_message(out: &mut Vec<u8>, message: &Message) -> Result<(), NoMemory>
 {
     match message {
         Message::Unary(name) => put(out, name.text.bytes()),
-        Message::Binary(name, argument) => put_binary(out, name, argument),
+        Message::Binary(oper) => put_oper(out, &oper.0, &oper.1),
         Message::Keys(keys) => put_keys(out, keys),
     }
 }
 
+/// An operator and its argument.
 #[cycle(expressions)]
-fn put_binary(out: &mut Vec<u8>, name: &Named, argument: &UnExpr) -> Result<(), NoMemory>
+fn put_oper(out: &mut Vec<u8>, name: &Named, argument: &UnExpr) -> Result<(), NoMemory>
     ensures { OnOk result (out.new.items ≡ out.old.items ++ lines (flat_message (p.binary name.now (un_of argument.now)))) }
 {
     put(out, name.text.bytes())?;
@@ -105,8 +108,7 @@ fn put_opers(out: &mut Vec<u8>, opers: &[(Named, UnExpr)]) -> Result<(), NoMemor
     ensures { OnOk result (out.new.items ≡ out.old.items ++ lines (flat_opers (opers_of opers.now))) }
 {
     for oper in opers {
-        put(out, oper.0.text.bytes())?;
-        put_un(out, &oper.1)?;
+        put_oper(out, &oper.0, &oper.1)?;
     }
     Ok(())
 }
@@ -114,6 +116,16 @@ fn put_opers(out: &mut Vec<u8>, opers: &[(Named, UnExpr)]) -> Result<(), NoMemor
 #[cycle(expressions)]
 fn put_un(out: &mut Vec<u8>, expr: &UnExpr) -> Result<(), NoMemory>
     ensures { OnOk result (out.new.items ≡ out.old.items ++ lines (flat_un (un_of expr.now))) }
+{
+    match expr {
+        UnExpr::Alone { at: _, primary } => put_primary(out, primary),
+        UnExpr::Sent(sent) => put_sent(out, sent),
+    }
+}
+
+#[cycle(expressions)]
+fn put_sent(out: &mut Vec<u8>, expr: &SentExpr) -> Result<(), NoMemory>
+    ensures { OnOk result (out.new.items ≡ out.old.items ++ lines (flat_un (sent_of expr.now))) }
 {
     put_primary(out, &expr.primary)?;
     put_names(out, &expr.names)

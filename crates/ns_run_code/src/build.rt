@@ -40,16 +40,17 @@ impl From<NoMemory> for BuildFault {
 const MOST_BYTES: usize = 134_217_728;
 
 /// The image of a program; or the first size of its code that passes its limit, or that the image has
-/// too many bytes.
-pub fn build(alloc: Global, checked: &Checked) -> Result<Vec<u8>, BuildFault>
-    ensures image { IfOk result (λ bytes. built_of (meant checked.now) ≡ image bytes.items) }
-    ensures fits { OnOk result (Fits (code_of (meant checked.now))) }
-    ensures sound { OnOk result (IsSound (code_of (meant checked.now))) }
-    ensures large { (kind : SizeKind) → IsErrOf result (TooLarge kind) → built_of (meant checked.now) ≡ too_large kind }
-    ensures large_image { IsErrOf result Image → built_of (meant checked.now) ≡ image_too_large }
+/// too many bytes. The program's tree is given back before the image is written.
+pub fn build(alloc: Global, checked: Checked) -> Result<Vec<u8>, BuildFault>
+    ensures image { IfOk result (λ bytes. built_of (meant checked) ≡ image bytes.items) }
+    ensures fits { OnOk result (Fits (code_of (meant checked))) }
+    ensures sound { OnOk result (IsSound (code_of (meant checked))) }
+    ensures large { (kind : SizeKind) → IsErrOf result (TooLarge kind) → built_of (meant checked) ≡ too_large kind }
+    ensures large_image { IsErrOf result Image → built_of (meant checked) ≡ image_too_large }
 {
-    match compile(alloc, checked) {
+    match compile(alloc, &checked) {
         Ok(code) => {
+            drop(checked);
             let bytes = write(alloc, code.code())?;
             measured(bytes)
         }

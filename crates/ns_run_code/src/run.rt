@@ -48,16 +48,17 @@ impl From<NoMemory> for RunFault {
 }
 
 /// The code of a program, admitted, whose runs are those that the source means; or the first size of it that passes its limit.
-pub fn source_code(alloc: Global, checked: &Checked) -> Result<Verified, RunFault>
-    ensures code { IfOk result (λ code. code ≡ code_of (meant checked.now)) }
-    ensures runs { IfOk result (RunsAsSourceMeans (meant checked.now)) }
-    ensures fits { OnOk result (size_fault (code_of (meant checked.now)) ≡ None) }
-    ensures large { (kind : SizeKind) → IsErrOf result (TooLarge kind) → size_fault (code_of (meant checked.now)) ≡ Some kind }
+/// The program's tree is given back with its code made.
+pub fn source_code(alloc: Global, checked: Checked) -> Result<Verified, RunFault>
+    ensures code { IfOk result (λ code. code ≡ code_of (meant checked)) }
+    ensures runs { IfOk result (RunsAsSourceMeans (meant checked)) }
+    ensures fits { OnOk result (size_fault (code_of (meant checked)) ≡ None) }
+    ensures large { (kind : SizeKind) → IsErrOf result (TooLarge kind) → size_fault (code_of (meant checked)) ≡ Some kind }
 {
     whole_programs_begin();
     code_runs_as_meant();
     let _program = checked.program();
-    match compile(alloc, checked) {
+    match compile(alloc, &checked) {
         Ok(code) => Ok(code),
         Err(LinkFault::TooLarge(kind)) => Err(RunFault::TooLarge(kind)),
         Err(LinkFault::Memory) => Err(RunFault::Memory),

@@ -31,15 +31,15 @@ pub fn on_build(
         program.files (map unit_of program.units) program.marks (fault_of program)) }
 {
     match check(alloc, program) {
-        Ok(checked) => built(alloc, image, &checked),
+        Ok(checked) => built(alloc, image, checked),
         Err(StaticFault::At { cause, place }) => on_static_fault(alloc, names, place, cause),
         Err(StaticFault::Memory) => Err(NoMemory),
     }
 }
 
 /// The report of a program without static faults whose image is stored under that name.
-fn built(alloc: Global, image: &str, checked: &Checked) -> Result<Report, NoMemory>
-    ensures { IfOk result (λ r. r ≡ spec.of_built image.now (built_of (meant checked.now))) }
+fn built(alloc: Global, image: &str, checked: Checked) -> Result<Report, NoMemory>
+    ensures { IfOk result (λ r. r ≡ spec.of_built image.now (built_of (meant checked))) }
 {
     match build(alloc, checked) {
         Ok(bytes) => stores(alloc, image, Text::from_vec(bytes)),

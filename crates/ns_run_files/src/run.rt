@@ -89,7 +89,7 @@ pub fn on_run<S: Shelf>(
     ensures missing { IfOk result (λ r. (name : List ℕ) → IsMissing name r → Rose (S.misses shelf.old) (S.misses shelf.new)) }
 {
     match check(alloc, program) {
-        Ok(checked) => run(alloc, task, &checked, shelf),
+        Ok(checked) => run(alloc, task, checked, shelf),
         Err(StaticFault::At { cause, place }) => {
             or_stop(on_static_fault(alloc, names, place, cause))
         }
@@ -101,12 +101,12 @@ pub fn on_run<S: Shelf>(
 fn run<S: Shelf>(
     alloc: Global,
     task: RunTask<'_>,
-    checked: &Checked,
+    checked: Checked,
     shelf: &mut S,
 ) -> Result<Report, Stop>
     requires { InRange task.limits }
     ensures reports { Reports S.holds S.misses S.faults S.store_faults shelf.old shelf.new
-        (run_of task.entry).inputs (spec.of_meant (run_of task.entry) (meant checked.now)) result }
+        (run_of task.entry).inputs (spec.of_meant (run_of task.entry) (meant checked)) result }
     ensures missing { IfOk result (λ r. (name : List ℕ) → IsMissing name r → Rose (S.misses shelf.old) (S.misses shelf.new)) }
 {
     match source_code(alloc, checked) {

@@ -21,6 +21,8 @@ fn put_expr(alloc: Global, all: &mut Vec<Scope>, scope: &Scope, expr: &Expr) -> 
 {
     match expr {
         Expr::Operand(operand) => put_un(alloc, all, scope, operand),
+        Expr::Operation(bin) => put_bin(alloc, all, scope, bin),
+        Expr::Implicit(keys) => put_keys(alloc, all, scope, keys),
         Expr::Full(full) => put_full_expr(alloc, all, scope, full),
     }
 }
@@ -64,7 +66,7 @@ pub fn put_message(
 {
     match message {
         Message::Unary(_) => Ok(()),
-        Message::Binary(_, argument) => put_un(alloc, all, scope, argument),
+        Message::Binary(oper) => put_un(alloc, all, scope, &oper.1),
         Message::Keys(keys) => put_keys(alloc, all, scope, keys),
     }
 }
@@ -134,7 +136,10 @@ fn put_opers(
 fn put_un(alloc: Global, all: &mut Vec<Scope>, scope: &Scope, expr: &UnExpr) -> Result<(), NoMemory>
     ensures { OnOk result (all.new.items ≡ all.old.items ++ un_blocks scope.now (un_of expr.now)) }
 {
-    put_primary(alloc, all, scope, &expr.primary)
+    match expr {
+        UnExpr::Alone { at: _, primary } => put_primary(alloc, all, scope, primary),
+        UnExpr::Sent(sent) => put_primary(alloc, all, scope, &sent.primary),
+    }
 }
 
 #[cycle(blocks)]

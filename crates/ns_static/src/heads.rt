@@ -100,7 +100,7 @@ fn is_new_message(message: &Message) -> bool
 {
     match message {
         Message::Unary(name) => name.text.bytes() == b"new".as_slice(),
-        Message::Binary(_, _) => false,
+        Message::Binary(_) => false,
         Message::Keys(_) => false,
     }
 }

@@ -1,4 +1,4 @@
--- What is found in a block, and in an operand.
+-- What is found in a block, and in an expression with less around it.
 use Rattle.std.proofs.Common.{◌≡◌, ◌∙◌, refl, [], ◌++◌, append-nil}
 use Rattle.ns_tree.specs.declared.tree.Block.{Block, out-Block}
 use Rattle.ns_tree.specs.Plain as p
@@ -8,7 +8,7 @@ use Rattle.ns_scope.specs.declared.scope.Scope.{Scope}
 use Rattle.ns_scope.specs.Names.{locals_of}
 use Rattle.ns_scope.specs.Scopes.{block_scope}
 use Rattle.ns_static_rules.specs.Rules.{locals_found}
-use Rattle.ns_static_rules.specs.Faults.{block_faults, inside_faults, expr_faults, un_faults}
+use Rattle.ns_static_rules.specs.Faults.{block_faults, inside_faults, expr_faults, keywords_found, keys_faults, bin_faults, un_faults}
 use Rattle.ns_static_rules.specs.declared.fault.Role.TheVariants as r
 
 pub block_and_inside : (scope : Scope) (e : Block) →
@@ -22,3 +22,13 @@ pub operand_faults : (scope : Scope) (un : p.UnExpr) →
 operand_faults scope un =
     let found = un_faults scope r.Value un in
     append-nil ((found ++ []) ++ []) ∙ append-nil (found ++ []) ∙ append-nil found
+
+pub operation_faults : (scope : Scope) (bin : p.BinExpr) →
+    expr_faults scope (p.expr_with [] (p.sent bin p.no_keys) p.no_messages) ≡ bin_faults scope r.Value bin
+operation_faults scope bin =
+    let found = bin_faults scope r.Value bin in
+    append-nil (found ++ []) ∙ append-nil found
+
+pub implicit_faults : (scope : Scope) (keys : p.Keys) →
+    expr_faults scope (p.expr_with [] (p.implicit keys) p.no_messages) ≡ keywords_found keys ++ keys_faults scope keys
+implicit_faults scope keys = append-nil (keywords_found keys ++ keys_faults scope keys)

@@ -35,8 +35,11 @@ key_places (p.more_keys name argument rest) = name.at ∷ key_places rest
 abbrev pub keywords_found : p.Keys → List Found
 keywords_found keys = found_past 63 many.Parameters (key_places keys)
 
+abbrev pub un_start : p.UnExpr → ℕ
+un_start (p.un_with at primary names) = at
+
 abbrev pub bin_start : p.BinExpr → ℕ
-bin_start (p.bin_with (p.un_with at primary names) opers) = at
+bin_start (p.bin_with first opers) = un_start first
 
 abbrev pub key_expr_start : p.KeyExpr → ℕ
 key_expr_start (p.sent receiver keys) = bin_start receiver

@@ -3,7 +3,7 @@
 
 ghost use Rattle.std.specs.Prelude.{◌≡◌, ◌++◌, [], flat_map, OnOk};
 ghost use Rattle.ns_tree.specs.Plain as p;
-ghost use Rattle.ns_tree.specs.PlainOf.{expr_of, full_expr_of, cascade_of, message_of, key_expr_of, keys_of, bin_of, opers_of, un_of, primary_of};
+ghost use Rattle.ns_tree.specs.PlainOf.{expr_of, full_expr_of, cascade_of, message_of, key_expr_of, keys_of, bin_of, opers_of, un_of, sent_of, primary_of};
 ghost use Rattle.ns_tree.specs.PlainOf.{exprs_of, block_of, slots_of, init_of, bars_of, statements_of, statement_list_of, statement_of};
 ghost use Rattle.ns_static_rules.specs.Rules.{set_found, bare_found, outer_found, number_found};
 ghost use Rattle.ns_static_rules.specs.Faults.{expr_faults, cascade_faults, message_faults, key_expr_faults, keys_faults, bin_faults, opers_faults, un_faults, primary_faults};
@@ -21,8 +21,8 @@ use crate::rules::{
 use ns_base::no_memory::NoMemory;
 use ns_scope::scope::Scope;
 use ns_tree::tree::{
-    BinExpr, Block, Expr, FullExpr, KeyExpr, Message, Named, Primary, Slot, SlotInit, Statement,
-    Statements, UnExpr,
+    BinExpr, Block, Expr, FullExpr, KeyExpr, Message, Named, Primary, SentExpr, Slot, SlotInit,
+    Statement, Statements, UnExpr,
 };
 
 #[cycle(expressions)]
@@ -31,6 +31,8 @@ pub fn expr_faults(checker: &mut Checker<'_>, scope: &Scope, expr: &Expr) -> Res
 {
     match expr {
         Expr::Operand(operand) => un_faults(checker, scope, Role::Value, operand),
+        Expr::Operation(bin) => bin_faults(checker, scope, Role::Value, bin),
+        Expr::Implicit(keys) => keywords_faults(checker, scope, keys),
         Expr::Full(full) => full_expr_faults(checker, scope, full),
     }
 }
@@ -81,7 +83,7 @@ pub fn message_faults(
 {
     match message {
         Message::Unary(_) => Ok(()),
-        Message::Binary(_, argument) => un_faults(checker, scope, Role::Value, argument),
+        Message::Binary(oper) => un_faults(checker, scope, Role::Value, &oper.1),
         Message::Keys(keys) => keywords_faults(checker, scope, keys),
     }
 }
@@ -164,6 +166,21 @@ fn un_faults(
     expr: &UnExpr,
 ) -> Result<(), NoMemory>
     ensures { OnOk result (checker.new ≡ with_found checker.old (un_faults scope.now role (un_of expr.now))) }
+{
+    match expr {
+        UnExpr::Alone { at, primary } => primary_faults(checker, scope, role, *at, primary),
+        UnExpr::Sent(sent) => sent_faults(checker, scope, role, sent),
+    }
+}
+
+#[cycle(expressions)]
+fn sent_faults(
+    checker: &mut Checker<'_>,
+    scope: &Scope,
+    role: Role,
+    expr: &SentExpr,
+) -> Result<(), NoMemory>
+    ensures { OnOk result (checker.new ≡ with_found checker.old (un_faults scope.now role (sent_of expr.now))) }
 {
     let role = receiver_if(has_names(&expr.names), role);
     primary_faults(checker, scope, role, expr.at, &expr.primary)

@@ -3,11 +3,11 @@
 ghost use Rattle.std.specs.Prelude.{◌≡◌, slice_get};
 ghost use Rattle.std.specs.List.{list_any};
 ghost use Rattle.std.specs.Str.{bytes_eq};
-ghost use Rattle.ns_tree.specs.PlainOf.{expr_of, full_expr_of, key_expr_of, keys_of, bin_of, opers_of, un_of, primary_of, cascade_of, exprs_of};
+ghost use Rattle.ns_tree.specs.PlainOf.{expr_of, full_expr_of, key_expr_of, keys_of, bin_of, opers_of, un_of, sent_of, primary_of, cascade_of, exprs_of};
 ghost use Rattle.ns_scope.specs.Resolve.{innermost};
 ghost use Rattle.ns_static_rules.specs.Rules.{set_found, return_found, bare_found, outer_found, number_found, cascade_found};
 ghost use Rattle.ns_static_rules.specs.Rules.{setting_is_fixed, is_fixed, is_bare, unary_sends, is_written, un_sends, opers_send, bin_sends, written_bin, sends_to_written, has_names, has_opers, has_keys};
-ghost use Rattle.ns_static_rules.specs.Faults.{receiver_if, key_places, expr_starts, keywords_found, elements_found, expr_start, key_expr_start, bin_start};
+ghost use Rattle.ns_static_rules.specs.Faults.{receiver_if, key_places, expr_starts, keywords_found, elements_found, expr_start, key_expr_start, bin_start, un_start};
 ghost use Rattle.ns_static_rules.specs.Walk.{with_found};
 
 use crate::checker::{Checker, found, found_if, found_past};
@@ -16,7 +16,7 @@ use ns_scope::chain::{Chain, Link};
 use ns_scope::names::Setting;
 use ns_scope::scope::{ClassScope, Scope};
 use ns_tree::parts::first_key;
-use ns_tree::tree::{BinExpr, Expr, FullExpr, KeyExpr, Message, Named, Primary, UnExpr};
+use ns_tree::tree::{BinExpr, Expr, FullExpr, KeyExpr, Message, Named, Primary, SentExpr, UnExpr};
 
 /// FixedLocal, at `x::`, where x can't be set.
 pub fn set_found(checker: &mut Checker<'_>, scope: &Scope, name: &Named)
@@ -154,7 +154,10 @@ fn opers_send(first: &UnExpr, more: &[(Named, UnExpr)]) -> bool
 fn un_sends(expr: &UnExpr) -> bool
     ensures { result ≡ un_sends (un_of expr.now) }
 {
-    unary_sends(&expr.primary, &expr.names)
+    match expr {
+        UnExpr::Alone { at: _, primary: _ } => false,
+        UnExpr::Sent(sent) => unary_sends(&sent.primary, &sent.names),
+    }
 }
 
 fn unary_sends(primary: &Primary, names: &[Named]) -> bool
@@ -170,6 +173,15 @@ fn unary_sends(primary: &Primary, names: &[Named]) -> bool
 /// Whether it is more than `super` or `outer N`.
 fn is_written(expr: &UnExpr) -> bool
     ensures { result ≡ is_written (un_of expr.now) }
+{
+    match expr {
+        UnExpr::Alone { at: _, primary } => !is_bare(primary),
+        UnExpr::Sent(sent) => is_written_sent(sent),
+    }
+}
+
+fn is_written_sent(expr: &SentExpr) -> bool
+    ensures { result ≡ is_written (sent_of expr.now) }
 {
     if has_names(&expr.names) {
         return true;
@@ -278,7 +290,9 @@ fn expr_start(expr: &Expr) -> u32
     ensures { result ≡ expr_start (expr_of expr.now) }
 {
     match expr {
-        Expr::Operand(operand) => operand.at,
+        Expr::Operand(operand) => un_start(operand),
+        Expr::Operation(bin) => bin_start(bin),
+        Expr::Implicit(keys) => first_key(keys),
         Expr::Full(full) => full_expr_start(full),
     }
 }
@@ -304,5 +318,14 @@ fn key_expr_start(expr: &KeyExpr) -> u32
 fn bin_start(expr: &BinExpr) -> u32
     ensures { result ≡ bin_start (bin_of expr.now) }
 {
-    expr.first.at
+    un_start(&expr.first)
+}
+
+fn un_start(expr: &UnExpr) -> u32
+    ensures { result ≡ un_start (un_of expr.now) }
+{
+    match expr {
+        UnExpr::Alone { at, primary: _ } => *at,
+        UnExpr::Sent(sent) => sent.at,
+    }
 }

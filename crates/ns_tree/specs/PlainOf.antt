@@ -12,6 +12,7 @@ use Rattle.ns_tree.specs.declared.tree.Message.{Message}
 use Rattle.ns_tree.specs.declared.tree.KeyExpr.{KeyExpr}
 use Rattle.ns_tree.specs.declared.tree.BinExpr.{BinExpr}
 use Rattle.ns_tree.specs.declared.tree.UnExpr.{UnExpr}
+use Rattle.ns_tree.specs.declared.tree.SentExpr.{SentExpr}
 use Rattle.ns_tree.specs.declared.tree.Primary.{Primary}
 use Rattle.ns_tree.specs.declared.tree.Block.{Block}
 use Rattle.ns_tree.specs.declared.tree.Slot.{Slot}
@@ -31,8 +32,9 @@ use Rattle.ns_tree.specs.declared.tree.Unit as u
 
 abbrev mutual
   pub expr_of : Expr → p.Expr
-  expr_of (b.Operand' at primary names) =
-      p.expr_with [] (p.sent (p.bin_with (p.un_with at (primary_of primary) names.items) p.no_opers) p.no_keys) p.no_messages
+  expr_of (b.Operand un) = p.expr_with [] (p.sent (p.bin_with (un_of un) p.no_opers) p.no_keys) p.no_messages
+  expr_of (b.Operation' _ first _ more) = p.expr_with [] (p.sent (p.bin_with (un_of first) (opers_row more)) p.no_keys) p.no_messages
+  expr_of (b.Implicit' _ keys) = p.expr_with [] (p.implicit (keys_row keys)) p.no_messages
   expr_of (b.Full' _ full) = full_expr_of full
 
   pub full_expr_of : FullExpr → p.Expr
@@ -44,26 +46,27 @@ abbrev mutual
 
   pub message_of : Message → p.Message
   message_of (b.Unary name) = p.unary name
-  message_of (b.Binary' name at primary names) = p.binary name (p.un_with at (primary_of primary) names.items)
+  message_of (b.Binary' _ name argument) = p.binary name (un_of argument)
   message_of (b.Keys' _ keys) = p.keywords (keys_row keys)
 
-  pub keys_row : {n : _} → b.Row_of-Message-Keys-0-2 n → p.Keys
-  keys_row b.end_of-Message-Keys-0-2 = p.no_keys
-  keys_row (b.more_of-Message-Keys-0-2 name argument rest) = p.more_keys name (bin_of argument) (keys_row rest)
+  pub keys_row : {n : _} → b.Row_of-Expr-Implicit-0-2 n → p.Keys
+  keys_row b.end_of-Expr-Implicit-0-2 = p.no_keys
+  keys_row (b.more_of-Expr-Implicit-0-2 name first _ more rest) = p.more_keys name (p.bin_with (un_of first) (opers_row more)) (keys_row rest)
 
   pub key_expr_of : KeyExpr → p.KeyExpr
   key_expr_of (b.struct-KeyExpr receiver _ keys) = receiver_held receiver (keys_row keys)
 
   pub receiver_held : b.Held-KeyExpr-receiver → p.Keys → p.KeyExpr
   receiver_held b.KeyExpr-receiver-None' keys = p.implicit keys
-  receiver_held (b.KeyExpr-receiver-Some' receiver) keys = p.sent (bin_of receiver) keys
-
-  pub bin_of : BinExpr → p.BinExpr
-  bin_of (b.struct-BinExpr at primary names _ more) = p.bin_with (p.un_with at (primary_of primary) names.items) (opers_row more)
+  receiver_held (b.KeyExpr-receiver-Some' first _ more) keys = p.sent (p.bin_with (un_of first) (opers_row more)) keys
 
   pub opers_row : {n : _} → b.Row_of-BinExpr-more-2 n → p.Opers
   opers_row b.end_of-BinExpr-more-2 = p.no_opers
-  opers_row (b.more_of-BinExpr-more-2 name at primary names rest) = p.more_opers name (p.un_with at (primary_of primary) names.items) (opers_row rest)
+  opers_row (b.more_of-BinExpr-more-2 name argument rest) = p.more_opers name (un_of argument) (opers_row rest)
+
+  pub un_of : UnExpr → p.UnExpr
+  un_of (b.Alone at primary) = p.un_with at (primary_of primary) []
+  un_of (b.Sent' _ at primary names) = p.un_with at (primary_of primary) names.items
 
   pub primary_of : Primary → p.Primary
   primary_of (b.Name text) = p.name text
@@ -108,8 +111,8 @@ abbrev mutual
   statements_row b.end_of-Statement = p.no_statements
   statements_row (b.more_of-Statement caret expr rest) = p.more_statements (p.statement_with caret (expr_of expr)) (statements_row rest)
 
-abbrev pub un_of : UnExpr → p.UnExpr
-un_of un = p.un_with un.at (primary_of un.primary) un.names.items
+abbrev pub sent_of : SentExpr → p.UnExpr
+sent_of sent = p.un_with sent.at (primary_of sent.primary) sent.names.items
 
 abbrev pub statement_of : Statement → p.Statement
 statement_of statement = p.statement_with statement.caret (expr_of statement.expr)
@@ -122,6 +125,9 @@ slot_of slot = p.slot_with slot.access slot.name (init_of slot.init)
 abbrev pub opers_of : List (Named × UnExpr) → p.Opers
 opers_of [] = p.no_opers
 opers_of (x ∷ xs) = p.more_opers x.0 (un_of x.1) (opers_of xs)
+
+abbrev pub bin_of : BinExpr → p.BinExpr
+bin_of bin = p.bin_with (un_of bin.first) (opers_of bin.more.items)
 
 abbrev pub keys_of : List (Named × BinExpr) → p.Keys
 keys_of [] = p.no_keys

@@ -1,15 +1,16 @@
 //! A maker for each node of a tree that holds a vector, a box or an option of nodes, and for the nodes
 //! around them. Each says the node's plain form, so that who makes a tree sees plain forms alone.
 
-ghost use Rattle.std.specs.Prelude.{◌≡◌, [], IfErr, IfOk, option_map};
+ghost use Rattle.std.specs.Prelude.{◌≡◌, [], IfOk, option_map};
 ghost use Rattle.ns_tree.specs.Plain as p;
-ghost use Rattle.ns_tree.specs.PlainOf.{expr_of, full_expr_of, message_of, key_expr_of, bin_of, un_of, primary_of, block_of, slot_of, init_of, statements_of, statement_of};
+ghost use Rattle.ns_tree.specs.PlainOf.{expr_of, full_expr_of, message_of, key_expr_of, bin_of, un_of, sent_of, primary_of, block_of, slot_of, init_of, statements_of, statement_of};
 ghost use Rattle.ns_tree.specs.PlainOf.{cascade_of, keys_of, opers_of, exprs_of, bars_of, statement_list_of, members_of, class_side_of};
 ghost use Rattle.ns_tree.specs.PlainOf.{pattern_of, clause_of, method_of, class_of, side_of, member_of, what_of, unit_of};
 
 use crate::tree::{
     Access, Base, BinExpr, Block, Class, Expr, FullExpr, KeyExpr, Member, Message, Method, Named,
-    Pattern, Primary, Side, Slot, SlotInit, Statement, Statements, SuperClause, UnExpr, Unit, What,
+    Pattern, Primary, SentExpr, Side, Slot, SlotInit, Statement, Statements, SuperClause, UnExpr,
+    Unit, What,
 };
 use ns_base::no_memory::NoMemory;
 use ns_base::text::Text;
@@ -28,16 +29,51 @@ pub fn expr(
     ensures { IfOk result (λ expr. expr_of expr ≡ p.expr_with sets.items (key_expr_of first) (cascade_of more.items)) }
 {
     if sets.is_empty() && more.is_empty() {
-        match alone(first) {
-            Ok(operand) => Ok(Expr::Operand(operand)),
-            Err(first) => full(alloc, sets, first, more),
-        }
+        simple(alloc, first)
     } else {
         full(alloc, sets, first, more)
     }
 }
 
-/// The same, as more than an operand.
+/// An expression without names that are set and without a cascade.
+fn simple(alloc: Global, expr: KeyExpr) -> Result<Expr, NoMemory>
+    ensures { IfOk result (λ made. expr_of made ≡ p.expr_with [] (key_expr_of expr) p.no_messages) }
+{
+    let KeyExpr { receiver, keys } = expr;
+    match receiver {
+        None => Ok(Expr::Implicit(keys)),
+        Some(bin) => keyed(alloc, bin, keys),
+    }
+}
+
+/// A receiver, and the keys of the message to it, if there are any.
+fn keyed(alloc: Global, receiver: BinExpr, keys: Vec<(Named, BinExpr)>) -> Result<Expr, NoMemory>
+    ensures { IfOk result (λ made. expr_of made ≡ p.expr_with [] (p.sent (bin_of receiver) (keys_of keys.items)) p.no_messages) }
+{
+    if keys.is_empty() {
+        operation(alloc, receiver)
+    } else {
+        full(
+            alloc,
+            Vec::new(alloc),
+            sent(receiver, keys),
+            Vec::new(alloc),
+        )
+    }
+}
+
+/// A receiver and the binary messages to it, if there are any.
+fn operation(alloc: Global, bin: BinExpr) -> Result<Expr, NoMemory>
+    ensures { IfOk result (λ made. expr_of made ≡ p.expr_with [] (p.sent (bin_of bin) p.no_keys) p.no_messages) }
+{
+    if bin.more.is_empty() {
+        Ok(Expr::Operand(bin.first))
+    } else {
+        Ok(Expr::Operation(Box::new(alloc, bin)?))
+    }
+}
+
+/// An expression of any form.
 fn full(
     alloc: Global,
     sets: Vec<Named>,
@@ -60,35 +96,11 @@ fn full_expr(sets: Vec<Named>, first: KeyExpr, more: Vec<(u32, Message)>) -> Ful
     }
 }
 
-/// The operand that is all of an expression, or the expression.
-fn alone(expr: KeyExpr) -> Result<UnExpr, KeyExpr>
-    ensures alone { IfOk result (λ operand. key_expr_of expr ≡ p.sent (p.bin_with (un_of operand) p.no_opers) p.no_keys) }
-    ensures same { IfErr result (λ same. key_expr_of same ≡ key_expr_of expr) }
+/// A binary message: an operator and its argument.
+pub fn binary(alloc: Global, oper: (Named, UnExpr)) -> Result<Message, NoMemory>
+    ensures { IfOk result (λ message. message_of message ≡ p.binary oper.0 (un_of oper.1)) }
 {
-    let KeyExpr { receiver, keys } = expr;
-    match receiver {
-        None => Err(implicit(keys)),
-        Some(bin) => without_messages(bin, keys),
-    }
-}
-
-/// The operand of an expression without keys and binary messages, or the expression.
-fn without_messages(bin: BinExpr, keys: Vec<(Named, BinExpr)>) -> Result<UnExpr, KeyExpr>
-    ensures alone { IfOk result (λ operand. p.sent (bin_of bin) (keys_of keys.items) ≡ p.sent (p.bin_with (un_of operand) p.no_opers) p.no_keys) }
-    ensures same { IfErr result (λ same. key_expr_of same ≡ p.sent (bin_of bin) (keys_of keys.items)) }
-{
-    if keys.is_empty() && bin.more.is_empty() {
-        Ok(bin.first)
-    } else {
-        Err(sent(bin, keys))
-    }
-}
-
-/// A binary message.
-pub fn binary(name: Named, argument: UnExpr) -> Message
-    ensures { message_of result ≡ p.binary name (un_of argument) }
-{
-    Message::Binary(name, argument)
+    Ok(Message::Binary(Box::new(alloc, oper)?))
 }
 
 /// A keyword message.
@@ -128,11 +140,22 @@ pub fn bin(first: UnExpr, more: Vec<(Named, UnExpr)>) -> BinExpr
     }
 }
 
-/// A primary and unary messages to it.
-pub fn un(at: u32, primary: Primary, names: Vec<Named>) -> UnExpr
-    ensures { un_of result ≡ p.un_with at (primary_of primary) names.items }
+/// A primary and the unary messages to it, if there are any.
+pub fn un(alloc: Global, at: u32, primary: Primary, names: Vec<Named>) -> Result<UnExpr, NoMemory>
+    ensures { IfOk result (λ un. un_of un ≡ p.un_with at (primary_of primary) names.items) }
 {
-    UnExpr {
+    if names.is_empty() {
+        Ok(UnExpr::Alone { at, primary })
+    } else {
+        let sent = sent_expr(at, primary, names);
+        Ok(UnExpr::Sent(Box::new(alloc, sent)?))
+    }
+}
+
+fn sent_expr(at: u32, primary: Primary, names: Vec<Named>) -> SentExpr
+    ensures { sent_of result ≡ p.un_with at (primary_of primary) names.items }
+{
+    SentExpr {
         at,
         primary,
         names: fitted(names),

@@ -148,11 +148,14 @@ pub struct Statement {
     pub expr: Expr,
 }
 
-/// An expression: an operand alone, as most are, or more than that.
+/// An expression: an operand alone, as most are; binary messages alone; the keys of an implicit send
+/// alone; or more than that.
 #[cycle(exprs)]
 #[derive(Drop)]
 pub enum Expr {
     Operand(UnExpr),
+    Operation(Box<BinExpr>),
+    Implicit(Vec<(Named, BinExpr)>),
     Full(Box<FullExpr>),
 }
 
@@ -166,12 +169,13 @@ pub struct FullExpr {
     pub more: Vec<(u32, Message)>,
 }
 
-/// A message of a cascade or of a superclass clause.
+/// A message of a cascade or of a superclass clause. A binary one, which is rare, stands in memory of
+/// its own.
 #[cycle(exprs)]
 #[derive(Drop)]
 pub enum Message {
     Unary(Named),
-    Binary(Named, UnExpr),
+    Binary(Box<(Named, UnExpr)>),
     Keys(Vec<(Named, BinExpr)>),
 }
 
@@ -192,10 +196,18 @@ pub struct BinExpr {
     pub more: Vec<(Named, UnExpr)>,
 }
 
+/// A primary with the number of its first token: alone, as most are, or with unary messages to it.
+#[cycle(exprs)]
+#[derive(Drop)]
+pub enum UnExpr {
+    Alone { at: u32, primary: Primary },
+    Sent(Box<SentExpr>),
+}
+
 /// A primary, the number of its first token, and the unary messages to it, from left to right.
 #[cycle(exprs)]
 #[derive(Drop)]
-pub struct UnExpr {
+pub struct SentExpr {
     pub at: u32,
     pub primary: Primary,
     pub names: Vec<Named>,

@@ -1,38 +1,35 @@
 use Rattle.std.proofs.Common.{◌≡◌, ◌∙◌, ℕ, ◌+◌, ◌-◌, length, take, drop, length-drop, refl, sym, arith}
-use Rattle.ns_tree.specs.declared.tree.BinExpr.{out-BinExpr}
 use Rattle.ns_tree.specs.declared.tree.FullExpr.{out-FullExpr}
 use Rattle.ns_tree.specs.declared.tree.KeyExpr.{out-KeyExpr}
-use Rattle.ns_tree.specs.PlainOf.{un_of, opers_of, keys_of, bin_of, key_expr_of, primary_of}
-use Rattle.ns_tree.specs.laws.Nodes.{bin_out, full_expr_out, operand_out, key_expr_none, key_expr_some, keywords_out, tuple_out}
+use Rattle.ns_tree.specs.PlainOf.{un_of, sent_of, opers_of, keys_of, bin_of, key_expr_of, primary_of}
+use Rattle.ns_tree.specs.laws.Nodes.{full_expr_out, operand_out, operation_out, implicit_out, key_expr_none, key_expr_some, keywords_out, tuple_out}
 use Rattle.ns_scope.specs.Bodies.{bin_blocks, key_expr_blocks}
 use Rattle.ns_resolved.specs.Expressions.{un_node, un_said, bin_said, key_expr_said, primary_receiver}
 use Rattle.ns_gen_draft.specs.Standing.{standing}
 use Rattle.ns_gen_draft.specs.laws.Numbers.{behind_both}
 use Rattle.ns_gen_exprs.specs.Sending.{keys_left}
 use Rattle.ns_gen_exprs.proofs.Walking.{oper_put, bin_put, bin_kept, keywords_whole, implicit_whole, keyed_put, keyed_left, received_put}
-use Rattle.ns_gen_exprs.proofs.Walking.{keys_step, keys_number, items_step, items_number, expr_put}
+use Rattle.ns_gen_exprs.proofs.Walking.{keys_step, keys_done, keys_number, items_step, items_done, items_number, expr_put}
 use Rattle.ns_gen_exprs.proofs.Firsts.{IsFirst, parted, un_first, bin_first, keys_first, rest_step, rest_number}
-use Rattle.ns_gen_exprs.proofs.Alone.{un_alone_said, un_alone_counted, bin_alone_said, bin_alone_counted, key_alone_node, key_alone_counted, operand_counted}
+use Rattle.ns_gen_exprs.proofs.Alone.{un_alone_said, un_alone_counted, bin_alone_said, bin_alone_counted, key_alone_node, key_alone_counted}
+use Rattle.ns_gen_exprs.proofs.Alone.{operand_node, operand_counted, operation_counted, implicit_counted}
 use Rattle.ns_gen_exprs.proofs.Cascaded.{cascade_whole, some_more}
 use Rattle.ns_gen_exprs.proofs.+expressions.Goals as goal
 
 pub expressions::put_bin-returns-clause-put : goal.expressions::put_bin-returns-clause-put
 expressions::put_bin-returns-clause-put t c =
-    rw (bin_out c.args.bin.now)
-    (bin_put (standing c.args.here.now) c.args.next.now c.put_un.new.next (un_of (out-BinExpr c.args.bin.now).first) (opers_of (out-BinExpr c.args.bin.now).more.items)
+    bin_put (standing c.args.here.now) c.args.next.now c.put_un.new.next (un_of c.args.bin.now.first) (opers_of c.args.bin.now.more.items)
     c.in_ok-receiver.receiver c.args.writer.now c.put_un.new.writer c.put_opers.new.writer
-    c.in_ok-receiver.ensures.kept c.in_ok-receiver.ensures.put c.in_ok-receiver.ensures.next (rw c.deref.ensures.value at c.in_ok-behind.ensures.put))
+    c.in_ok-receiver.ensures.kept c.in_ok-receiver.ensures.put c.in_ok-receiver.ensures.next (rw c.deref.ensures.value at c.in_ok-behind.ensures.put)
 
 pub expressions::put_bin-returns-clause-kept : goal.expressions::put_bin-returns-clause-kept
 expressions::put_bin-returns-clause-kept t c =
-    rw (bin_out c.args.bin.now)
-    (bin_kept (standing c.args.here.now) c.args.next.now (un_of (out-BinExpr c.args.bin.now).first) (opers_of (out-BinExpr c.args.bin.now).more.items)
-    c.in_ok-receiver.receiver c.in_ok-behind.behind c.in_ok-receiver.ensures.kept (rw c.deref.ensures.value at c.in_ok-behind.ensures.left))
+    bin_kept (standing c.args.here.now) c.args.next.now (un_of c.args.bin.now.first) (opers_of c.args.bin.now.more.items)
+    c.in_ok-receiver.receiver c.in_ok-behind.behind c.in_ok-receiver.ensures.kept (rw c.deref.ensures.value at c.in_ok-behind.ensures.left)
 
 pub expressions::put_bin-returns-clause-next : goal.expressions::put_bin-returns-clause-next
 expressions::put_bin-returns-clause-next t c =
-    rw (bin_out c.args.bin.now)
-    (behind_both _ _ c.args.next.now c.put_un.new.next c.put_opers.new.next c.in_ok-receiver.ensures.next (rw c.deref.ensures.value at c.in_ok-behind.ensures.next))
+    behind_both _ _ c.args.next.now c.put_un.new.next c.put_opers.new.next c.in_ok-receiver.ensures.next (rw c.deref.ensures.value at c.in_ok-behind.ensures.next)
 
 pub expressions::put_full_expr-returns-clause-put : goal.expressions::put_full_expr-returns-clause-put
 expressions::put_full_expr-returns-clause-put t c =
@@ -64,6 +61,11 @@ expressions::put_items-loop-item-preserved t c = (
       c.loop-item-test.true c.item-item.is c.loop-item.invariant.1 c.in_ok-put_expr.ensures.next,
 )
 
+pub expressions::put_items-returns-clause-put : goal.expressions::put_items-returns-clause-put
+expressions::put_items-returns-clause-put t c =
+    items_done (standing c.args.here.now) c.loop-item.next c.loop-item.item-index c.args.items.now c.loop-item.writer _
+    (omega (c.loop-item-test.false, arith)) c.loop-item.invariant.0
+
 pub expressions::put_keys-loop-key-preserved : goal.expressions::put_keys-loop-key-preserved
 expressions::put_keys-loop-key-preserved t c = (
   keys_step (standing c.args.here.now) c.loop-key.next c.put_bin_value.new.next c.loop-key.key-index c.args.keys.now c.key-item.result c.loop-key.writer c.put_bin_value.new.writer _
@@ -71,6 +73,11 @@ expressions::put_keys-loop-key-preserved t c = (
   keys_number (standing c.args.here.now) c.loop-key.next c.put_bin_value.new.next c.loop-key.key-index _ c.args.keys.now c.key-item.result
       c.loop-key-test.true c.key-item.is c.loop-key.invariant.1 c.in_ok-put_bin_value.ensures.next,
 )
+
+pub expressions::put_keys-returns-clause-put : goal.expressions::put_keys-returns-clause-put
+expressions::put_keys-returns-clause-put t c =
+    keys_done (standing c.args.here.now) c.loop-key.next c.loop-key.key-index c.args.keys.now c.loop-key.writer _
+    (omega (c.loop-key-test.false, arith)) c.loop-key.invariant.0
 
 pub expressions::put_oper-returns-clause-put : goal.expressions::put_oper-returns-clause-put
 expressions::put_oper-returns-clause-put t c =
@@ -121,11 +128,11 @@ expressions::put_primary-returns-in_ok-put_tuple-in-Tuple-clause-next t c =
 
 pub cascades::put_message-returns-in-Keys-clause-put : goal.cascades::put_message-returns-in-Keys-clause-put
 cascades::put_message-returns-in-Keys-clause-put t c =
-    rw (keywords_out c.args.message.now _ c.in-Keys.is) (rw c.deref.ensures.value at c.put_keywords.ensures.put)
+    rw (keywords_out c.args.message.now _ c.in-Keys.is) (rw c.deref-in-Keys.ensures.value at c.put_keywords.ensures.put)
 
 pub cascades::put_message-returns-in-Keys-clause-next : goal.cascades::put_message-returns-in-Keys-clause-next
 cascades::put_message-returns-in-Keys-clause-next t c =
-    rw (keywords_out c.args.message.now _ c.in-Keys.is) (rw c.deref.ensures.value at c.put_keywords.ensures.next)
+    rw (keywords_out c.args.message.now _ c.in-Keys.is) (rw c.deref-in-Keys.ensures.value at c.put_keywords.ensures.next)
 
 pub cascades::put_rest-loop-message-preserved : goal.cascades::put_rest-loop-message-preserved
 cascades::put_rest-loop-message-preserved t c =
@@ -148,12 +155,12 @@ cascades::put_rest-loop-message-preserved t c =
 
 -- ---- the message before a cascade
 
-first_name : (t : ℕ) (c : goal.cascades::put_first_name-In_ok-put_name-in-len1-up t) →
-    IsFirst (standing c.args.here.now) (un_said (standing c.args.here.now) c.args.next.now (un_of c.args.un.now)) c.in_ok-receiver-in-len1-up.receiver
+first_sent : (t : ℕ) (c : goal.cascades::put_first_sent-In_ok-put_name-in-len1-up t) →
+    IsFirst (standing c.args.here.now) (un_said (standing c.args.here.now) c.args.next.now (sent_of c.args.sent.now)) c.in_ok-receiver-in-len1-up.receiver
     c.args.writer.now c.put_name.new.writer
-first_name t c =
-    let names = c.args.un.now.names.items in
-    un_first (standing c.args.here.now) (primary_receiver (standing c.args.here.now) c.args.next.now c.args.un.now.at (primary_of c.args.un.now.primary))
+first_sent t c =
+    let names = c.args.sent.now.names.items in
+    un_first (standing c.args.here.now) (primary_receiver (standing c.args.here.now) c.args.next.now c.args.sent.now.at (primary_of c.args.sent.now.primary))
     names (take (length names - 1) names) c.last-item.result c.in_ok-first-in-len1-up.first c.in_ok-receiver-in-len1-up.receiver
     c.args.writer.now c.put_primary.new.writer c.put_names.new.writer c.put_copy.new.writer c.put_name.new.writer
     (parted names c.last-item.result (rw c.as_slice.ensures.value at c.in-len1-up.len_at_least) (rw c.as_slice.ensures.value at c.last-item.is))
@@ -161,14 +168,14 @@ first_name t c =
     (rw c.as_slice.ensures.value at c.in_ok-receiver-in-len1-up.ensures.put) (rw c.as_slice.ensures.value at c.in_ok-receiver-in-len1-up.ensures.left)
     c.in_ok-put_copy-in-len1-up.ensures c.in_ok-put_name-in-len1-up.ensures
 
-pub cascades::put_first_name-returns-in_ok-put_name-in-len1-up-clause-put : goal.cascades::put_first_name-returns-in_ok-put_name-in-len1-up-clause-put
-cascades::put_first_name-returns-in_ok-put_name-in-len1-up-clause-put t c = (first_name t c).0
+pub cascades::put_first_sent-returns-in_ok-put_name-in-len1-up-clause-put : goal.cascades::put_first_sent-returns-in_ok-put_name-in-len1-up-clause-put
+cascades::put_first_sent-returns-in_ok-put_name-in-len1-up-clause-put t c = (first_sent t c).0
 
-pub cascades::put_first_name-returns-in_ok-put_name-in-len1-up-clause-kept : goal.cascades::put_first_name-returns-in_ok-put_name-in-len1-up-clause-kept
-cascades::put_first_name-returns-in_ok-put_name-in-len1-up-clause-kept t c = (first_name t c).1
+pub cascades::put_first_sent-returns-in_ok-put_name-in-len1-up-clause-kept : goal.cascades::put_first_sent-returns-in_ok-put_name-in-len1-up-clause-kept
+cascades::put_first_sent-returns-in_ok-put_name-in-len1-up-clause-kept t c = (first_sent t c).1
 
-pub cascades::put_first_name-returns-in_ok-put_name-in-len1-up-clause-said : goal.cascades::put_first_name-returns-in_ok-put_name-in-len1-up-clause-said
-cascades::put_first_name-returns-in_ok-put_name-in-len1-up-clause-said t c = (first_name t c).2
+pub cascades::put_first_sent-returns-in_ok-put_name-in-len1-up-clause-said : goal.cascades::put_first_sent-returns-in_ok-put_name-in-len1-up-clause-said
+cascades::put_first_sent-returns-in_ok-put_name-in-len1-up-clause-said t c = (first_sent t c).2
 
 pub cascades::put_first_oper-returns-in-empty-clause-put : goal.cascades::put_first_oper-returns-in-empty-clause-put
 cascades::put_first_oper-returns-in-empty-clause-put t c =
@@ -191,16 +198,15 @@ first_oper : (t : ℕ) (c : goal.cascades::put_first_oper-In_ok-put_oper-in-len1
     c.args.writer.now c.put_oper.new.writer
     × (c.put_oper.new.next ≡ c.args.next.now + length (bin_blocks c.args.here.now.scope.now (bin_of c.args.bin.now)))
 first_oper t c =
-    let opers = (out-BinExpr c.args.bin.now).more.items in
-    rw (bin_out c.args.bin.now)
-    (bin_first (standing c.args.here.now) c.args.next.now c.put_un.new.next c.put_opers.new.next c.put_oper.new.next (un_of (out-BinExpr c.args.bin.now).first)
+    let opers = c.args.bin.now.more.items in
+    bin_first (standing c.args.here.now) c.args.next.now c.put_un.new.next c.put_opers.new.next c.put_oper.new.next (un_of c.args.bin.now.first)
     opers (take (length opers - 1) opers) c.last-item.result c.in_ok-first-in-len1-up.first c.in_ok-receiver-in-len1-up.receiver
     c.args.writer.now c.put_un.new.writer c.put_opers.new.writer c.put_copy.new.writer c.put_oper.new.writer
     (parted opers c.last-item.result (rw c.as_slice.ensures.value at c.in-len1-up.len_at_least) (rw c.as_slice.ensures.value at c.last-item.is))
     c.in_ok-first-in-len1-up.ensures.kept c.in_ok-first-in-len1-up.ensures.put c.in_ok-first-in-len1-up.ensures.next
     (rw c.as_slice.ensures.value at c.in_ok-receiver-in-len1-up.ensures.put) (rw c.as_slice.ensures.value at c.in_ok-receiver-in-len1-up.ensures.left)
     (rw c.as_slice.ensures.value at c.in_ok-receiver-in-len1-up.ensures.next)
-    c.in_ok-put_copy-in-len1-up.ensures c.in_ok-put_oper-in-len1-up.ensures.put c.in_ok-put_oper-in-len1-up.ensures.next)
+    c.in_ok-put_copy-in-len1-up.ensures c.in_ok-put_oper-in-len1-up.ensures.put c.in_ok-put_oper-in-len1-up.ensures.next
 
 pub cascades::put_first_oper-returns-in_ok-put_oper-in-len1-up-clause-put : goal.cascades::put_first_oper-returns-in_ok-put_oper-in-len1-up-clause-put
 cascades::put_first_oper-returns-in_ok-put_oper-in-len1-up-clause-put t c = (first_oper t c).0.0
@@ -287,9 +293,28 @@ expressions::put_unset-returns-in_ok-put_key_value-in-empty-clause-next t c =
 
 pub expressions::put_expr-returns-in-Operand-clause-put : goal.expressions::put_expr-returns-in-Operand-clause-put
 expressions::put_expr-returns-in-Operand-clause-put t c =
-    rw (operand_out c.args.expr.now _ c.in-Operand.is) c.put_un_value.ensures.put
+    rw (operand_out c.args.expr.now _ c.in-Operand.is)
+    (rw (operand_node (standing c.args.here.now) c.args.next.now (un_of c.in-Operand.operand)) c.put_un_value.ensures.put)
 
 pub expressions::put_expr-returns-in-Operand-clause-next : goal.expressions::put_expr-returns-in-Operand-clause-next
 expressions::put_expr-returns-in-Operand-clause-next t c =
     rw (operand_out c.args.expr.now _ c.in-Operand.is)
     (rw (operand_counted c.args.here.now.scope.now (un_of c.in-Operand.operand)) c.put_un_value.ensures.next)
+
+pub expressions::put_expr-returns-in-Operation-clause-put : goal.expressions::put_expr-returns-in-Operation-clause-put
+expressions::put_expr-returns-in-Operation-clause-put t c =
+    rw (operation_out c.args.expr.now _ c.in-Operation.is) (rw c.deref.ensures at c.put_bin_value.ensures.put)
+
+pub expressions::put_expr-returns-in-Operation-clause-next : goal.expressions::put_expr-returns-in-Operation-clause-next
+expressions::put_expr-returns-in-Operation-clause-next t c =
+    rw (operation_out c.args.expr.now _ c.in-Operation.is)
+    (rw (operation_counted c.args.here.now.scope.now (bin_of c.in-Operation.bin.value)) (rw c.deref.ensures at c.put_bin_value.ensures.next))
+
+pub expressions::put_expr-returns-in-Implicit-clause-put : goal.expressions::put_expr-returns-in-Implicit-clause-put
+expressions::put_expr-returns-in-Implicit-clause-put t c =
+    rw (implicit_out c.args.expr.now _ c.in-Implicit.is) (rw c.deref-in-Implicit.ensures.value at c.put_implicit.ensures.put)
+
+pub expressions::put_expr-returns-in-Implicit-clause-next : goal.expressions::put_expr-returns-in-Implicit-clause-next
+expressions::put_expr-returns-in-Implicit-clause-next t c =
+    rw (implicit_out c.args.expr.now _ c.in-Implicit.is)
+    (rw (implicit_counted c.args.here.now.scope.now (keys_of c.in-Implicit.keys.items)) (rw c.deref-in-Implicit.ensures.value at c.put_implicit.ensures.next))

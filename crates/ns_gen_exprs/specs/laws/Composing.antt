@@ -5,7 +5,8 @@ use Rattle.ns_resolved.specs.Program as m
 use Rattle.ns_resolved.specs.Expressions as e
 use Rattle.ns_resolved.specs.Tables.{put_all, node_names, nodes_names, node_texts, nodes_texts}
 use Rattle.ns_gen_code.specs.Code.{CodeLine, Way, sends, plain, how_many, object_lines, way_of, node_lines, nodes_lines}
-use Rattle.ns_gen_draft.specs.Drafts.{Written, with_line, with_name}
+use Rattle.ns_gen_draft.specs.Drafts.{Written, filled, with_line, with_name}
+use Rattle.ns_gen_draft.specs.laws.Filling.{filled_none, filled_more}
 use Rattle.ns_gen_draft.specs.laws.Writing.{put_more, written_is}
 use Rattle.ns_gen_exprs.specs.Sending.{with_lines, with_node, with_nodes, kept, with_receiver, begin_lines, begin_way, with_message, with_value}
 use Rattle.ns_gen_exprs.specs.declared.receiver.Receiver.{Receiver}
@@ -16,21 +17,21 @@ use Rattle.ns_gen_code.specs.laws.GoesOn.{node_goes_on, nodes_go_on}
 
 -- Lines behind those of a node are lines that the node's go before.
 pub behind_node : (node : m.Node) (k : ℕ) (before after : List CodeLine) →
-    (before ++ node_lines k node []) ++ after ≡ before ++ node_lines k node after
+    filled (filled before (node_lines k node [])) after ≡ filled before (node_lines k node after)
 behind_node node k before after =
-    append_assoc before (node_lines k node []) after ∙ ap (before ++◌) (sym (node_goes_on node k [] after))
+    filled_more before (node_lines k node []) after ∙ ap (filled before) (sym (node_goes_on node k [] after))
 
 -- Lines behind those of nodes are lines that the nodes' go before.
 pub behind_nodes : (nodes : m.Nodes) (k : ℕ) (before after : List CodeLine) →
-    (before ++ nodes_lines k nodes []) ++ after ≡ before ++ nodes_lines k nodes after
+    filled (filled before (nodes_lines k nodes [])) after ≡ filled before (nodes_lines k nodes after)
 behind_nodes nodes k before after =
-    append_assoc before (nodes_lines k nodes []) after ∙ ap (before ++◌) (sym (nodes_go_on nodes k [] after))
+    filled_more before (nodes_lines k nodes []) after ∙ ap (filled before) (sym (nodes_go_on nodes k [] after))
 
 -- ---- lists of nodes
 
 -- No nodes are written as nothing.
 pub with_none : (before : Written) → with_nodes m.no_nodes before ≡ before
-with_none before = written_is _ _ _ _ _ _ refl (append-nil before.texts) (append-nil before.lines)
+with_none before = written_is _ _ _ _ _ _ refl (append-nil before.texts) (filled_none before.lines)
 
 pub with_more : (node : m.Node) (rest : m.Nodes) (before : Written) →
     with_nodes (m.more_nodes node rest) before ≡ with_nodes rest (with_node node before)
@@ -39,7 +40,7 @@ with_more node rest before =
     written_is _ _ _ _ _ _ (put_more (node_names node) (nodes_names rest) before.names)
     (sym (append_assoc before.texts (node_texts node) (nodes_texts rest)))
     (sym (behind_node node k before.lines (nodes_lines (k + length (node_texts node)) rest []))
-    ∙ ap (λ n. (before.lines ++ node_lines k node []) ++ nodes_lines n rest []) (sym (length-append before.texts (node_texts node))))
+    ∙ ap (λ n. filled (filled before.lines (node_lines k node [])) (nodes_lines n rest [])) (sym (length-append before.texts (node_texts node))))
 
 -- One node is written as the list of it.
 pub with_one : (node : m.Node) (before : Written) → with_nodes (e.one node) before ≡ with_node node before
@@ -67,13 +68,13 @@ sent_behind : (begin : List CodeLine) (way : Way) (sent : m.Sent) (arguments : m
     ≡ (let w : Written = record {
       names = put_all before.names (nodes_names arguments ++ sent.selector ∷ []);
       texts = before.texts ++ nodes_texts arguments;
-      lines = before.lines ++ (begin ++ nodes_lines (length before.texts) arguments (sends way sent (how_many arguments) ∷ []));
+      lines = filled before.lines (begin ++ nodes_lines (length before.texts) arguments (sends way sent (how_many arguments) ∷ []));
     } in w)
 sent_behind begin way sent arguments count before e =
     written_is _ _ _ _ _ _ (sym (put_more (nodes_names arguments) (sent.selector ∷ []) before.names)) refl
-    (ap (λ n. ((before.lines ++ begin) ++ nodes_lines (length before.texts) arguments []) ++ sends way sent n ∷ []) e
-    ∙ behind_nodes arguments (length before.texts) (before.lines ++ begin) (sends way sent (how_many arguments) ∷ [])
-    ∙ append_assoc before.lines begin (nodes_lines (length before.texts) arguments (sends way sent (how_many arguments) ∷ [])))
+    (ap (λ n. filled (filled (filled before.lines begin) (nodes_lines (length before.texts) arguments [])) (sends way sent n ∷ [])) e
+    ∙ behind_nodes arguments (length before.texts) (filled before.lines begin) (sends way sent (how_many arguments) ∷ [])
+    ∙ filled_more before.lines begin (nodes_lines (length before.texts) arguments (sends way sent (how_many arguments) ∷ [])))
 
 -- a message, with its arguments written in between
 pub message_put : (scope : Scope) (receiver : Receiver) (sent : m.Sent) (arguments : m.Nodes) (way : Way) (count : ℕ) (before : Written) →
@@ -85,7 +86,7 @@ message_put scope receiver sent arguments way count before p q =
     let lines = nodes_lines (length before.texts) arguments (line ∷ []) in
     ap (λ w. with_line (with_name (with_nodes arguments (with_lines (begin_lines scope receiver sent.selector []) before)) sent.selector) (sends w sent count)) p
     ∙ sent_behind (begin_lines scope receiver sent.selector []) (begin_way scope receiver sent.selector) sent arguments count before q
-    ∙ written_is _ _ _ _ _ _ refl refl (ap (before.lines ++◌) (sym (begin_on scope receiver sent.selector lines)))
+    ∙ written_is _ _ _ _ _ _ refl refl (ap (filled before.lines) (sym (begin_on scope receiver sent.selector lines)))
 
 -- a send to an object that is reached so
 pub object_sent : (reach : m.Reach) (sent : m.Sent) (arguments : m.Nodes) (way : Way) (count : ℕ) (before : Written) → way ≡ way_of reach →
@@ -96,7 +97,22 @@ object_sent reach sent arguments way count before p q =
     let lines = nodes_lines (length before.texts) arguments (sends (way_of reach) sent (how_many arguments) ∷ []) in
     ap (λ w. with_line (with_name (with_nodes arguments (with_lines (object_lines reach []) before)) sent.selector) (sends w sent count)) p
     ∙ sent_behind (object_lines reach []) (way_of reach) sent arguments count before q
-    ∙ written_is _ _ _ _ _ _ refl refl (ap (before.lines ++◌) (sym (object_on reach lines)))
+    ∙ written_is _ _ _ _ _ _ refl refl (ap (filled before.lines) (sym (object_on reach lines)))
+
+-- a message without arguments
+pub unary_put : (scope : Scope) (receiver : Receiver) (sent : m.Sent) (way : Way) (before : Written) → way ≡ begin_way scope receiver sent.selector →
+    with_line (with_name (with_lines (begin_lines scope receiver sent.selector []) before) sent.selector) (sends way sent 0)
+    ≡ with_message scope receiver sent m.no_nodes before
+unary_put scope receiver sent way before p =
+    ap (λ w. with_line (with_name w sent.selector) (sends way sent 0)) (sym (with_none (with_lines (begin_lines scope receiver sent.selector []) before)))
+    ∙ message_put scope receiver sent m.no_nodes way 0 before p refl
+
+-- a send without arguments to an object that is reached so
+pub object_named : (reach : m.Reach) (sent : m.Sent) (way : Way) (before : Written) → way ≡ way_of reach →
+    with_line (with_name (with_lines (object_lines reach []) before) sent.selector) (sends way sent 0) ≡ with_node (m.send_to reach sent m.no_nodes) before
+object_named reach sent way before p =
+    ap (λ w. with_line (with_name w sent.selector) (sends way sent 0)) (sym (with_none (with_lines (object_lines reach []) before)))
+    ∙ object_sent reach sent m.no_nodes way 0 before p refl
 
 -- a message to a receiver is the send that it means
 pub message_is : (scope : Scope) (receiver : e.Receiver) (sent : m.Sent) (arguments : m.Nodes) (before : Written) →
@@ -106,7 +122,7 @@ message_is scope (e.to_value node) sent arguments before =
     let last = sends plain sent (how_many arguments) ∷ [] in
     written_is _ _ _ _ _ _ (sym (put_more (node_names node) (nodes_names arguments ++ sent.selector ∷ []) before.names))
     (append_assoc before.texts (node_texts node) (nodes_texts arguments))
-    (ap (λ n. (before.lines ++ node_lines k node []) ++ nodes_lines n arguments last) (length-append before.texts (node_texts node))
+    (ap (λ n. filled (filled before.lines (node_lines k node [])) (nodes_lines n arguments last)) (length-append before.texts (node_texts node))
     ∙ behind_node node k before.lines (nodes_lines (k + length (node_texts node)) arguments last))
 message_is scope e.to_self sent arguments before = refl
 message_is scope e.to_super sent arguments before = refl

@@ -1,9 +1,9 @@
 -- The plain form of a node, by its fields or by what its variant holds. Code that reads a tree cites these.
-use Rattle.std.proofs.Common.{◌≡◌, ◌∙◌, ap, rules, [], Bool, Option, Some, None, option_map}
-use Rattle.std.specs.Global.{Vec}
+use Rattle.std.proofs.Common.{◌≡◌, ◌∙◌, ap, rules, ℕ, [], Bool, Option, Some, None, option_map}
+use Rattle.std.specs.Global.{Vec, Box}
 use Rattle.ns_tree.specs.Plain as p
 use Rattle.ns_tree.specs.PlainOf.{expr_of, full_expr_of, message_of, key_expr_of, bin_of, un_of, primary_of, block_of, statements_of, class_of, side_of}
-use Rattle.ns_tree.specs.PlainOf.{received, cascade_of, keys_of, opers_of, exprs_of, slots_of, bars_of, statement_list_of, members_of, class_side_of, pattern_of, clause_of}
+use Rattle.ns_tree.specs.PlainOf.{received, cascade_of, keys_of, exprs_of, slots_of, bars_of, statement_list_of, members_of, class_side_of, pattern_of, clause_of}
 use Rattle.ns_tree.specs.declared.tree.Expr.TheBlock as b
 use Rattle.ns_tree.specs.declared.tree.Expr.TheViews as m
 use Rattle.ns_tree.specs.declared.tree.What.TheBlock as c
@@ -32,11 +32,7 @@ full_expr_out (b.struct-FullExpr sets first shape row) = search (rules, m.the_le
 
 pub key_expr_out : (e : KeyExpr) → key_expr_of e ≡ received (m.out-KeyExpr e).receiver (keys_of (m.out-KeyExpr e).keys.items)
 key_expr_out (b.struct-KeyExpr b.KeyExpr-receiver-None' shape row) = search (rules, m.the_lemmas, keys_items)
-key_expr_out (b.struct-KeyExpr (b.KeyExpr-receiver-Some' r) shape row) = search (rules, m.the_lemmas, keys_items)
-
--- A binary expression's tree is that of its first operand with its operators.
-pub bin_out : (e : BinExpr) → bin_of e ≡ p.bin_with (un_of (m.out-BinExpr e).first) (opers_of (m.out-BinExpr e).more.items)
-bin_out (b.struct-BinExpr at prim names shape row) = search (rules, m.the_lemmas, opers_items)
+key_expr_out (b.struct-KeyExpr (b.KeyExpr-receiver-Some' first more_shape more) shape row) = search (rules, m.the_lemmas, opers_items, keys_items)
 
 -- A block's tree is that of its parameters, its slots and its statements.
 pub block_out : (e : Block) → block_of e ≡ p.block_with (m.out-Block e).params.items (bars_of (m.out-Block e).slots) (statements_of (m.out-Block e).body)
@@ -84,9 +80,23 @@ class_some e side h = class_out e ∙ ap (λ o. p.class_with (w.out-Class e).nam
 -- ---- variants that stand for a node with less
 
 -- The tree of an operand alone has nothing around the operand.
-pub operand_out : (e : Expr) (un : UnExpr) → e ≡ m.Operand un →
+pub operand_out : (e : Expr) (un : UnExpr) → e ≡ b.Operand un →
     expr_of e ≡ p.expr_with [] (p.sent (p.bin_with (un_of un) p.no_opers) p.no_keys) p.no_messages
 operand_out e un h = ap expr_of h
+
+-- The tree of binary messages alone has nothing around them.
+pub operation_out : (e : Expr) (bin : Box BinExpr) → e ≡ m.Operation bin →
+    expr_of e ≡ p.expr_with [] (p.sent (bin_of bin.value) p.no_keys) p.no_messages
+operation_out e bin h = ap expr_of h ∙ search (rules, m.the_lemmas, opers_items)
+
+-- The tree of keys alone has them without a receiver, and nothing around them.
+pub implicit_out : (e : Expr) (keys : Vec (Named × BinExpr)) → e ≡ m.Implicit keys →
+    expr_of e ≡ p.expr_with [] (p.implicit (keys_of keys.items)) p.no_messages
+implicit_out e keys h = ap expr_of h ∙ search (rules, m.the_lemmas, keys_items)
+
+-- The tree of a primary alone has no unary messages.
+pub alone_out : (e : UnExpr) (at : ℕ) (primary : Primary) → e ≡ b.Alone at primary → un_of e ≡ p.un_with at (primary_of primary) []
+alone_out e at primary h = ap un_of h
 
 -- ---- variants that hold a vector
 

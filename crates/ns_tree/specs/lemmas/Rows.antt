@@ -1,19 +1,23 @@
 -- The plain form of a row is that of the list of its items.
-use Rattle.std.proofs.Common.{◌≡◌, refl, ap}
+use Rattle.std.proofs.Common.{◌≡◌, refl, ap, ◌∙◌, rules}
 use Rattle.ns_tree.specs.Plain as p
 use Rattle.ns_tree.specs.PlainOf.{cascade_row, keys_row, opers_row, exprs_row, slots_row, statements_row, members_row}
 use Rattle.ns_tree.specs.PlainOf.{cascade_of, keys_of, opers_of, exprs_of, slots_of, statement_list_of, members_of}
-use Rattle.ns_tree.specs.PlainOf.{message_of, bin_of, primary_of, expr_of, init_of, what_of}
+use Rattle.ns_tree.specs.PlainOf.{message_of, un_of, expr_of, init_of, what_of}
 use Rattle.ns_tree.specs.declared.tree.Expr.TheBlock as b
+use Rattle.ns_tree.specs.declared.tree.Expr.TheViews.{the_lemmas}
 use Rattle.ns_tree.specs.declared.tree.What.TheBlock as c
 
 pub opers_items : (n : _) (row : b.Row_of-BinExpr-more-2 n) → opers_row row ≡ opers_of (b.items-the_row-BinExpr-more-2 n row)
 opers_items n b.end_of-BinExpr-more-2 = refl
-opers_items n (b.more_of-BinExpr-more-2 {n = m} name at primary names rest) = ap (p.more_opers name (p.un_with at (primary_of primary) names.items)) (opers_items m rest)
+opers_items n (b.more_of-BinExpr-more-2 {n = m} name argument rest) = ap (p.more_opers name (un_of argument)) (opers_items m rest)
 
-pub keys_items : (n : _) (row : b.Row_of-Message-Keys-0-2 n) → keys_row row ≡ keys_of (b.items-the_row-Message-Keys-0-2 n row)
-keys_items n b.end_of-Message-Keys-0-2 = refl
-keys_items n (b.more_of-Message-Keys-0-2 {n = m} name argument rest) = ap (p.more_keys name (bin_of argument)) (keys_items m rest)
+pub keys_items : (n : _) (row : b.Row_of-Expr-Implicit-0-2 n) → keys_row row ≡ keys_of (b.items-the_row-Expr-Implicit-0-2 n row)
+keys_items n b.end_of-Expr-Implicit-0-2 = refl
+keys_items n (b.more_of-Expr-Implicit-0-2 {n = m} name first shape more rest) =
+    let opers : opers_row more ≡ opers_of (b.shown-the_row-BinExpr-more-2-0 shape more).items = search (rules, the_lemmas, opers_items) in
+    ap (λ x. p.more_keys name (p.bin_with (un_of first) x) (keys_row rest)) opers
+    ∙ ap (p.more_keys name (p.bin_with (un_of first) (opers_of (b.shown-the_row-BinExpr-more-2-0 shape more).items))) (keys_items m rest)
 
 pub cascade_items : (n : _) (row : b.Row_of-FullExpr-more-2 n) → cascade_row row ≡ cascade_of (b.items-the_row-FullExpr-more-2 n row)
 cascade_items n b.end_of-FullExpr-more-2 = refl

@@ -1,17 +1,16 @@
 use Rattle.std.proofs.Common.{◌≡◌, ◌∙◌, ◌+◌, length, ap, refl, arith}
-use Rattle.ns_tree.specs.declared.tree.BinExpr.{out-BinExpr}
 use Rattle.ns_tree.specs.declared.tree.Block.{out-Block}
 use Rattle.ns_tree.specs.declared.tree.FullExpr.{out-FullExpr}
 use Rattle.ns_tree.specs.declared.tree.KeyExpr.{out-KeyExpr}
 use Rattle.ns_tree.specs.PlainOf.{expr_of, cascade_of, message_of, key_expr_of, keys_of, bin_of, opers_of, un_of, exprs_of, bars_of, slots_of, slot_of, statements_of, statement_list_of, statement_of}
-use Rattle.ns_tree.specs.laws.Nodes.{bin_out, full_expr_out, operand_out, statements_out, key_expr_none, key_expr_some, block_out, block_none, block_some, keywords_out, tuple_out}
+use Rattle.ns_tree.specs.laws.Nodes.{full_expr_out, operand_out, operation_out, implicit_out, statements_out, key_expr_none, key_expr_some, block_out, block_none, block_some, keywords_out, tuple_out}
 use Rattle.ns_scope.specs.Bodies as b
 use Rattle.ns_resolved.specs.Statements.{expr_bodies, cascade_bodies, message_bodies, key_expr_bodies, keys_bodies, bin_bodies, opers_bodies, un_bodies, items_bodies, slots_bodies, slot_bodies, statements_bodies, list_bodies, statement_bodies}
 use Rattle.ns_gen_draft.specs.Standing.{standing}
 use Rattle.ns_gen_draft.specs.laws.Numbers.{behind_both, loop_number}
 use Rattle.ns_gen_bodies.specs.Coding.{with_bodies}
 use Rattle.ns_gen.proofs.Onward.{both_put, loop_put}
-use Rattle.ns_gen.proofs.Blocks.{block_put, block_number, bare_put, bare_number, operand_blocks, operand_bodies}
+use Rattle.ns_gen.proofs.Blocks.{block_put, block_number, bare_put, bare_number, operand_blocks, operand_bodies, operation_blocks, operation_bodies, implicit_blocks, implicit_bodies}
 use Rattle.ns_gen.proofs.inner.+inner.Goals as goal
 
 pub put_full_expr-returns-clause-put : goal.put_full_expr-returns-clause-put
@@ -30,15 +29,13 @@ put_full_expr-returns-clause-next t c =
 pub put_bin-returns-clause-put : goal.put_bin-returns-clause-put
 put_bin-returns-clause-put t c =
     let here = standing c.args.here.now in
-    rw (bin_out c.args.expr.now)
-    (both_put (un_bodies here c.args.next.now (un_of (out-BinExpr c.args.expr.now).first)) (λ n. opers_bodies here n (opers_of (out-BinExpr c.args.expr.now).more.items)) (c.args.next.now + length (b.un_blocks here.scope (un_of (out-BinExpr c.args.expr.now).first)))
+    both_put (un_bodies here c.args.next.now (un_of c.args.expr.now.first)) (λ n. opers_bodies here n (opers_of c.args.expr.now.more.items)) (c.args.next.now + length (b.un_blocks here.scope (un_of c.args.expr.now.first)))
     c.put_un.new.next c.args.output.now c.put_un.new.output c.put_opers.new.output
-    c.in_ok-put_un.ensures.put c.in_ok-put_un.ensures.next (rw c.deref.ensures.value at c.in_ok-put_opers.ensures.put))
+    c.in_ok-put_un.ensures.put c.in_ok-put_un.ensures.next (rw c.deref.ensures.value at c.in_ok-put_opers.ensures.put)
 
 pub put_bin-returns-clause-next : goal.put_bin-returns-clause-next
 put_bin-returns-clause-next t c =
-    rw (bin_out c.args.expr.now)
-    (behind_both _ _ c.args.next.now c.put_un.new.next c.put_opers.new.next c.in_ok-put_un.ensures.next (rw c.deref.ensures.value at c.in_ok-put_opers.ensures.next))
+    behind_both _ _ c.args.next.now c.put_un.new.next c.put_opers.new.next c.in_ok-put_un.ensures.next (rw c.deref.ensures.value at c.in_ok-put_opers.ensures.next)
 
 pub put_key_expr-returns-in_ok-put_keys-in-Some-clause-put : goal.put_key_expr-returns-in_ok-put_keys-in-Some-clause-put
 put_key_expr-returns-in_ok-put_keys-in-Some-clause-put t c =
@@ -85,10 +82,10 @@ put_inside-returns-in_ok-put_statements-in-None-clause-next t c =
     rw (block_none c.args.block.now c.in-None.is) c.in_ok-put_statements-in-None.ensures.next
 
 pub put_message-returns-in-Keys-clause-put : goal.put_message-returns-in-Keys-clause-put
-put_message-returns-in-Keys-clause-put t c = rw (keywords_out c.args.message.now _ c.in-Keys.is) (rw c.deref.ensures.value at c.put_keys.ensures.put)
+put_message-returns-in-Keys-clause-put t c = rw (keywords_out c.args.message.now _ c.in-Keys.is) (rw c.deref-in-Keys.ensures.value at c.put_keys.ensures.put)
 
 pub put_message-returns-in-Keys-clause-next : goal.put_message-returns-in-Keys-clause-next
-put_message-returns-in-Keys-clause-next t c = rw (keywords_out c.args.message.now _ c.in-Keys.is) (rw c.deref.ensures.value at c.put_keys.ensures.next)
+put_message-returns-in-Keys-clause-next t c = rw (keywords_out c.args.message.now _ c.in-Keys.is) (rw c.deref-in-Keys.ensures.value at c.put_keys.ensures.next)
 
 pub put_primary-returns-in-BareBlock-clause-put : goal.put_primary-returns-in-BareBlock-clause-put
 put_primary-returns-in-BareBlock-clause-put t c = rw c.in-BareBlock.is (rw c.deref-in-BareBlock.ensures at c.put_bare_block.ensures.put)
@@ -216,3 +213,23 @@ pub put_expr-returns-in-Operand-clause-next : goal.put_expr-returns-in-Operand-c
 put_expr-returns-in-Operand-clause-next t c =
     rw (operand_out c.args.expr.now _ c.in-Operand.is)
     (rw (operand_blocks c.args.here.now.scope.now (un_of c.in-Operand.operand)) c.put_un.ensures.next)
+
+pub put_expr-returns-in-Operation-clause-put : goal.put_expr-returns-in-Operation-clause-put
+put_expr-returns-in-Operation-clause-put t c =
+    rw (operation_out c.args.expr.now _ c.in-Operation.is)
+    (rw (operation_bodies (standing c.args.here.now) c.args.next.now (bin_of c.in-Operation.bin.value)) (rw c.deref.ensures at c.put_bin.ensures.put))
+
+pub put_expr-returns-in-Operation-clause-next : goal.put_expr-returns-in-Operation-clause-next
+put_expr-returns-in-Operation-clause-next t c =
+    rw (operation_out c.args.expr.now _ c.in-Operation.is)
+    (rw (operation_blocks c.args.here.now.scope.now (bin_of c.in-Operation.bin.value)) (rw c.deref.ensures at c.put_bin.ensures.next))
+
+pub put_expr-returns-in-Implicit-clause-put : goal.put_expr-returns-in-Implicit-clause-put
+put_expr-returns-in-Implicit-clause-put t c =
+    rw (implicit_out c.args.expr.now _ c.in-Implicit.is)
+    (rw (implicit_bodies (standing c.args.here.now) c.args.next.now (keys_of c.in-Implicit.keys.items)) (rw c.deref-in-Implicit.ensures.value at c.put_keys.ensures.put))
+
+pub put_expr-returns-in-Implicit-clause-next : goal.put_expr-returns-in-Implicit-clause-next
+put_expr-returns-in-Implicit-clause-next t c =
+    rw (implicit_out c.args.expr.now _ c.in-Implicit.is)
+    (rw (implicit_blocks c.args.here.now.scope.now (keys_of c.in-Implicit.keys.items)) (rw c.deref-in-Implicit.ensures.value at c.put_keys.ensures.next))

@@ -1,10 +1,7 @@
 use Rattle.std.proofs.Common.{arith}
 use Rattle.std.proofs.lemmas.Grind.{common_steps}
-use Rattle.ns_tree.specs.laws.Nodes.{bin_out, full_expr_out, operand_out, statements_out, key_expr_none, key_expr_some, block_none, block_some, keywords_out, tuple_out}
+use Rattle.ns_tree.specs.laws.Nodes.{full_expr_out, operand_out, operation_out, implicit_out, alone_out, statements_out, key_expr_none, key_expr_some, block_none, block_some, keywords_out, tuple_out}
 use Rattle.ns_gen_draft.proofs.counting.+counting.Goals as goal
-
-pub count_bin-returns : goal.count_bin-returns
-count_bin-returns t c = rw (bin_out c.args.expr.now) (grind (arith, common_steps))
 
 pub count_full_expr-returns : goal.count_full_expr-returns
 count_full_expr-returns t c = rw (full_expr_out c.args.expr.now) (grind (arith, common_steps))
@@ -32,3 +29,12 @@ count_inside-returns-in_ok-count_slots-in-Some t c = rw (block_some c.args.block
 
 pub count_expr-returns-in-Operand : goal.count_expr-returns-in-Operand
 count_expr-returns-in-Operand t c = rw (operand_out c.args.expr.now _ c.in-Operand.is) (grind (arith, common_steps))
+
+pub count_expr-returns-in-Operation : goal.count_expr-returns-in-Operation
+count_expr-returns-in-Operation t c = rw (operation_out c.args.expr.now _ c.in-Operation.is) (grind (arith, common_steps))
+
+pub count_expr-returns-in-Implicit : goal.count_expr-returns-in-Implicit
+count_expr-returns-in-Implicit t c = rw (implicit_out c.args.expr.now _ c.in-Implicit.is) (grind (arith, common_steps))
+
+pub count_un-returns-in-Alone : goal.count_un-returns-in-Alone
+count_un-returns-in-Alone t c = rw (alone_out c.args.expr.now _ _ c.in-Alone.is) (grind (arith, common_steps))

@@ -198,10 +198,10 @@ unfolding x.message
 message-returns-in_err-item t c =
     fails_on message_of (x.message (x.primary c.args.depth) c.args.operators) _ c.in_err-item.field-0.0 c.args.tokens.now _ c.from_residual-in_err-item.ensures (rw ((sym c.sees_name.ensures ∙ c.if-sees_name.false), (sym c.sees_name-else-sees_name.ensures ∙ c.if-sees_name-2.true)) (stops _ _ _ c.in_err-item.ensures))
 
-pub message-returns-in_ok-item : goal.message-returns-in_ok-item
+pub message-returns-in_ok-binary : goal.message-returns-in_ok-binary
 unfolding x.message
-message-returns-in_ok-item t c =
-    rw ((sym c.sees_name.ensures ∙ c.if-sees_name.false), (sym c.sees_name-else-sees_name.ensures ∙ c.if-sees_name-2.true), c.in_ok-item.ensures) (gives (sym c.binary.ensures))
+message-returns-in_ok-binary t c =
+    rw ((sym c.sees_name.ensures ∙ c.if-sees_name.false), (sym c.sees_name-else-sees_name.ensures ∙ c.if-sees_name-2.true), c.in_ok-item.ensures) (gives (sym c.in_ok-binary.ensures))
 
 pub message-returns-in_err-keys : goal.message-returns-in_err-keys
 unfolding x.message

@@ -1,10 +1,7 @@
 use Rattle.std.proofs.Common.{arith, refl}
 use Rattle.std.proofs.lemmas.Grind.{common_steps}
-use Rattle.ns_tree.specs.laws.Nodes.{bin_out, full_expr_out, operand_out, statements_out, key_expr_none, key_expr_some, block_some, keywords_out, tuple_out}
+use Rattle.ns_tree.specs.laws.Nodes.{full_expr_out, operand_out, operation_out, implicit_out, alone_out, statements_out, key_expr_none, key_expr_some, block_some, keywords_out, tuple_out}
 use Rattle.ns_print.proofs.expressions.+expressions.Goals as goal
-
-pub put_bin-returns : goal.put_bin-returns
-put_bin-returns t c = rw (bin_out c.args.expr.now) (grind (arith, common_steps))
 
 pub put_full_expr-returns : goal.put_full_expr-returns
 put_full_expr-returns t c = rw (full_expr_out c.args.expr.now) (grind (arith, common_steps))
@@ -80,3 +77,12 @@ put_list-returns t c = grind (arith, common_steps)
 
 pub put_expr-returns-in-Operand : goal.put_expr-returns-in-Operand
 put_expr-returns-in-Operand t c = rw (operand_out c.args.expr.now _ c.in-Operand.is) (grind (arith, common_steps))
+
+pub put_expr-returns-in-Operation : goal.put_expr-returns-in-Operation
+put_expr-returns-in-Operation t c = rw (operation_out c.args.expr.now _ c.in-Operation.is) (grind (arith, common_steps))
+
+pub put_expr-returns-in-Implicit : goal.put_expr-returns-in-Implicit
+put_expr-returns-in-Implicit t c = rw (implicit_out c.args.expr.now _ c.in-Implicit.is) (grind (arith, common_steps))
+
+pub put_un-returns-in-Alone : goal.put_un-returns-in-Alone
+put_un-returns-in-Alone t c = rw (alone_out c.args.expr.now _ _ c.in-Alone.is) (grind (arith, common_steps))

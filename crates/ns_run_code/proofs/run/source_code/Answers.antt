@@ -7,7 +7,7 @@ use Rattle.ns_run_code.proofs.run.source_code.Goals as goal
 
 pub returns-in-Ok-clause-runs : goal.returns-in-Ok-clause-runs
 returns-in-Ok-clause-runs c = λ limits arguments range.
-    let program = c.args.checked.now in
+    let program = c.args.checked in
     let may = may_run program c.program-program.result.now limits (c.whole_programs_begin.ensures c.program-program.result.now)
     c.program-program.ensures.program c.program-program.ensures.whole c.in-Ok.ensures.sound c.in-Ok.ensures.fits range in
     ap (λ (code : CodeProgram). machine_run code limits arguments) c.in-Ok.ensures.code

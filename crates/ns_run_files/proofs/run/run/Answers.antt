@@ -13,14 +13,14 @@ use Rattle.ns_run_outcome.specs.laws.Plain.{size_ends, size_plain}
 pub returns-in-Ok-clause-reports : goal.returns-in-Ok-clause-reports
 returns-in-Ok-clause-reports g c =
     let run = run_of c.args.task in
-    let program = meant c.args.checked.now in
+    let program = meant c.args.checked in
     same_meaning _ _ _ _ _ _ run.inputs (code_run run c.in-Ok.code) (of_meant run program) c.on_code.result
     (λ texts. code_is_meant run program c.in-Ok.code texts c.in-Ok.ensures.code c.in-Ok.ensures.runs c.in-Ok.ensures.fits c.requires) c.on_code.ensures.reports
 
 pub returns-in-Err-TooLarge-clause-reports : goal.returns-in-Err-TooLarge-clause-reports
 returns-in-Err-TooLarge-clause-reports g c =
     let run = run_of c.args.task in
-    let program = meant c.args.checked.now in
+    let program = meant c.args.checked in
     let kind = c.in-Err-TooLarge.kind in
     let made = subst (λ name. IfOk c.refused_size.result (λ r. r ≡ refused_size name)) c.size_name.ensures c.refused_size.ensures in
     plain_reports _ _ _ _ c.args.shelf.now run.inputs (of_meant run program) (too_large kind) c.refused_size.result c.or_stop.result c.or_stop.ensures made (size_plain (size_name kind) (size_ends kind))

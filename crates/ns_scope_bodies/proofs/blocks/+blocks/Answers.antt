@@ -1,12 +1,9 @@
 use Rattle.std.proofs.Common.{refl, arith}
 use Rattle.std.proofs.lemmas.Grind.{common_steps}
-use Rattle.ns_tree.specs.PlainOf.{un_of}
-use Rattle.ns_tree.specs.laws.Nodes.{bin_out, full_expr_out, operand_out, statements_out, key_expr_none, key_expr_some, block_none, block_some, keywords_out, tuple_out}
-use Rattle.ns_scope_bodies.proofs.Inside.{block_and_inside, operand_blocks}
+use Rattle.ns_tree.specs.PlainOf.{un_of, bin_of, keys_of}
+use Rattle.ns_tree.specs.laws.Nodes.{full_expr_out, operand_out, operation_out, implicit_out, alone_out, statements_out, key_expr_none, key_expr_some, block_none, block_some, keywords_out, tuple_out}
+use Rattle.ns_scope_bodies.proofs.Inside.{block_and_inside, operand_blocks, operation_blocks, implicit_blocks}
 use Rattle.ns_scope_bodies.proofs.blocks.+blocks.Goals as goal
-
-pub put_bin-returns : goal.put_bin-returns
-put_bin-returns t c = rw (bin_out c.args.expr.now) (grind (arith, common_steps))
 
 pub put_full_expr-returns : goal.put_full_expr-returns
 put_full_expr-returns t c = rw (full_expr_out c.args.expr.now) (grind (arith, common_steps))
@@ -89,3 +86,16 @@ put_list-returns t c = grind (arith, common_steps)
 pub put_expr-returns-in-Operand : goal.put_expr-returns-in-Operand
 put_expr-returns-in-Operand t c =
     rw (operand_out c.args.expr.now _ c.in-Operand.is) (rw (operand_blocks c.args.scope.now (un_of c.in-Operand.operand)) c.put_un.ensures)
+
+pub put_expr-returns-in-Operation : goal.put_expr-returns-in-Operation
+put_expr-returns-in-Operation t c =
+    rw (operation_out c.args.expr.now _ c.in-Operation.is)
+    (rw (operation_blocks c.args.scope.now (bin_of c.in-Operation.bin.value)) (rw c.deref.ensures at c.put_bin.ensures))
+
+pub put_expr-returns-in-Implicit : goal.put_expr-returns-in-Implicit
+put_expr-returns-in-Implicit t c =
+    rw (implicit_out c.args.expr.now _ c.in-Implicit.is)
+    (rw (implicit_blocks c.args.scope.now (keys_of c.in-Implicit.keys.items)) (rw c.deref-in-Implicit.ensures.value at c.put_keys.ensures))
+
+pub put_un-returns-in-Alone : goal.put_un-returns-in-Alone
+put_un-returns-in-Alone t c = rw (alone_out c.args.expr.now _ _ c.in-Alone.is) (grind (arith, common_steps))

@@ -1,12 +1,9 @@
 use Rattle.std.proofs.Common.{arith, refl}
 use Rattle.std.proofs.lemmas.Grind.{common_steps}
-use Rattle.ns_tree.specs.PlainOf.{un_of}
-use Rattle.ns_tree.specs.laws.Nodes.{bin_out, full_expr_out, operand_out, statements_out, key_expr_none, key_expr_some, block_none, block_some, keywords_out, tuple_out}
-use Rattle.ns_static_rules.proofs.Inside.{block_and_inside, operand_faults}
+use Rattle.ns_tree.specs.PlainOf.{un_of, bin_of, keys_of}
+use Rattle.ns_tree.specs.laws.Nodes.{full_expr_out, operand_out, operation_out, implicit_out, alone_out, statements_out, key_expr_none, key_expr_some, block_none, block_some, keywords_out, tuple_out}
+use Rattle.ns_static_rules.proofs.Inside.{block_and_inside, operand_faults, operation_faults, implicit_faults}
 use Rattle.ns_static_rules.proofs.expressions.+expressions.Goals as goal
-
-pub bin_faults-returns : goal.bin_faults-returns
-bin_faults-returns t c = rw (bin_out c.args.expr.now) (grind (arith, common_steps))
 
 pub full_expr_faults-returns : goal.full_expr_faults-returns
 full_expr_faults-returns t c = rw (full_expr_out c.args.expr.now) (grind (arith, common_steps))
@@ -92,3 +89,16 @@ list_faults-returns t c = grind (arith, common_steps)
 pub expr_faults-returns-in-Operand : goal.expr_faults-returns-in-Operand
 expr_faults-returns-in-Operand t c =
     rw (operand_out c.args.expr.now _ c.in-Operand.is) (rw (operand_faults c.args.scope.now (un_of c.in-Operand.operand)) c.un_faults.ensures)
+
+pub expr_faults-returns-in-Operation : goal.expr_faults-returns-in-Operation
+expr_faults-returns-in-Operation t c =
+    rw (operation_out c.args.expr.now _ c.in-Operation.is)
+    (rw (operation_faults c.args.scope.now (bin_of c.in-Operation.bin.value)) (rw c.deref.ensures at c.bin_faults.ensures))
+
+pub expr_faults-returns-in-Implicit : goal.expr_faults-returns-in-Implicit
+expr_faults-returns-in-Implicit t c =
+    rw (implicit_out c.args.expr.now _ c.in-Implicit.is)
+    (rw (implicit_faults c.args.scope.now (keys_of c.in-Implicit.keys.items)) (rw c.deref-in-Implicit.ensures.value at c.keywords_faults.ensures))
+
+pub un_faults-returns-in-Alone : goal.un_faults-returns-in-Alone
+un_faults-returns-in-Alone t c = rw (alone_out c.args.expr.now _ _ c.in-Alone.is) (grind (arith, common_steps))

@@ -1,0 +1,2 @@
+-- Laws of these definitions, for the crates above.
+pub mod Finishing
