@@ -113,13 +113,7 @@ pub fn refuse_cut<O: Sink, E: Sink>(
 {
     match bad_word(alloc, first_bad(words)) {
         Err(NoMemory) => Status::Memory,
-        Ok(report) => {
-            if deliver(&report, out, err) {
-                report.status
-            } else {
-                Status::WriteFault
-            }
-        }
+        Ok(report) => write(&report, out, err),
     }
 }
 
