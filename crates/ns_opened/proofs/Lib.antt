@@ -1,4 +1,5 @@
 pub mod Faultless
 pub mod Laying
+pub mod Opening
 pub mod Reading
 pub mod Turning
