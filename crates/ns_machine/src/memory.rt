@@ -1,9 +1,10 @@
 //! The memory that a machine takes when it is made, after which its run takes none.
 
-ghost use Rattle.std.specs.Prelude.{◌≡◌, ◌≤◌, ◌*◌, ◌+◌, ◌++◌, length, replicate, IfOk};
+ghost use Rattle.std.specs.Prelude.{◌≡◌, ◌≤◌, ◌*◌, ◌+◌, ◌++◌, length, replicate, IfOk, OnOk};
 ghost use Rattle.ns_base.specs.Limits.{InRange};
 ghost use Rattle.ns_world.specs.World.{empty_world};
 ghost use Rattle.ns_machine_plan.specs.Plan.{IsPlanOf};
+ghost use Rattle.ns_machine_plan.specs.Steps.{all_places, places_in};
 ghost use Rattle.ns_machine_core.specs.Standing.{most_arguments};
 ghost use Rattle.ns_moves.specs.Bodies.{greatest_of};
 ghost use Rattle.ns_machine.specs.Fresh.{IsFresh};
@@ -13,6 +14,7 @@ use ns_base::limits::Limits;
 use ns_base::no_memory::NoMemory;
 use ns_base::place::Place;
 use ns_base::text::Text;
+use ns_code::body::BodyCode;
 use ns_code::program::CodeProgram;
 use ns_code::selector::text_arity;
 use ns_facets::board::Board;
@@ -136,24 +138,40 @@ fn places_for(
     requires plan { IsPlanOf code.now plan.now }
     ensures { IfOk result (λ places. HasPlaces code.now depth places) }
 {
-    let _code = code;
-    let of_code = plan.places();
+    let of_code = plan.place_count() as usize;
     let more = depth as usize + 1;
-    if MOST - more < of_code.len() {
+    if MOST - more < of_code {
         return Err(NoMemory);
     }
-    Ok(Places::from_vec(places_with(alloc, of_code, more)?))
+    Ok(Places::from_vec(places_with(alloc, code.bodies.as_slice(), of_code, more)?))
 }
 
-/// These places, and so many behind them that are of no site yet.
-fn places_with(alloc: Global, places: &[Place], more: usize) -> Result<Vec<Place>, NoMemory>
-    requires { length places.now + more ≤ 4294967295 }
-    ensures { IfOk result (λ all. all.items ≡ places.now ++ replicate more spare_place) }
+/// The places of bodies, of which there are so many, and so many behind them that are of no site yet.
+fn places_with(
+    alloc: Global,
+    bodies: &[BodyCode],
+    count: usize,
+    more: usize,
+) -> Result<Vec<Place>, NoMemory>
+    requires { count + more ≤ 4294967295 }
+    ensures { IfOk result (λ all. all.items ≡ all_places bodies.now ++ replicate more spare_place) }
 {
-    let mut all = Vec::with_capacity(alloc, places.len() + more)?;
-    all.extend_from_slice(places)?;
+    let mut all = Vec::with_capacity(alloc, count + more)?;
+    'bodies: for body in bodies {
+        add_places(&mut all, body)?;
+    }
     'spare: for _ in 0..more {
         all.push(SPARE)?;
     }
     Ok(all)
+}
+
+/// Adds the places of a body.
+fn add_places(places: &mut Vec<Place>, body: &BodyCode) -> Result<(), NoMemory>
+    ensures { OnOk result (places.new.items ≡ places.old.items ++ places_in body.now) }
+{
+    'places: for (_, place) in body.places.as_slice() {
+        places.push(*place)?;
+    }
+    Ok(())
 }

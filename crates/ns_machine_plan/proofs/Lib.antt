@@ -3,7 +3,7 @@ mod Packing
 pub mod Walk
 pub mod Rows
 pub mod Lookup
-pub mod Behind
+pub mod Kept
 pub mod Following
 pub mod Finding
 pub mod Among

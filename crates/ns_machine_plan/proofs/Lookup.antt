@@ -1,11 +1,11 @@
--- The step of each instruction stands where its body begins, and its place at its number.
+-- The step of each instruction stands at its number among those of its body, and its place at its own.
 use Rattle.std.proofs.Common.{◌≡◌, ℕ, zero, suc, ◌+◌, ◌≤◌, ◌<◌, List, [], ◌∷◌, ◌++◌, length, map, get_or, refl, sym, ap, subst, ◌∙◌, arith, Option, Some, None, All, Bool, true, false, cond, nat_eq}
 use Rattle.std.specs.Prelude.{slice_get}
 use Rattle.std.specs.List.{slice_index_or}
 use Rattle.std.proofs.lemmas.Bool.{eqb-true}
 use Rattle.std.proofs.lemmas.Option.{none-some, same_Some, slice_get-get_or, slice_get_past, slice_get_within, get_or_from_slice_get}
-use Rattle.std.proofs.lemmas.List.{drop_more, append_assoc, length-append, length-map, get_or_append_left, append-nil}
-use Rattle.std.proofs.Math.Seq.{get_or-append-add, get_or-append_seam}
+use Rattle.std.proofs.lemmas.List.{drop_more, append_assoc, length-append, length-map, append-nil}
+use Rattle.std.proofs.Math.Seq.{get_or-append_seam}
 use Rattle.ns_base.specs.declared.place.Place.{Place}
 use Rattle.ns_code.specs.declared.program.CodeProgram.{CodeProgram}
 use Rattle.ns_code.specs.declared.body.BodyCode.{BodyCode}
@@ -18,9 +18,7 @@ use Rattle.ns_moves.specs.Steps.{place_in, placed, steps_of, steps_from}
 use Rattle.ns_machine_plan.specs.declared.step.Step.{Step}
 use Rattle.ns_machine_plan.specs.declared.step.Step.TheVariants.{Pop}
 use Rattle.ns_machine_plan.specs.Steps.{no_place, place_number, step_of, prepared, all_steps, places_in, all_places, places_of, step_shown, HasItsMember}
-use Rattle.ns_machine_plan.specs.Rows.{entry_in, entry_of}
 use Rattle.ns_machine_plan.specs.Plan.{HasStep, IsStepAt}
-use Rattle.ns_machine_plan.proofs.Made.{prepared_length}
 use Rattle.ns_machine_plan.proofs.Rows.{HasBody, body_there}
 use Rattle.ns_machine_plan.specs.laws.Steps.{steps_are, steps_count}
 
@@ -44,12 +42,23 @@ prepared_there code body first places at (one ∷ instrs) zero m instr d is e =
 prepared_there code body first places at (one ∷ instrs) (suc k) m instr d is e =
     prepared_there code body first places (at + 1) instrs k m instr d is (omega (arith, e))
 
--- it is there, behind the entry of its body
-pub record StepThere (code : CodeProgram) (first : ℕ) (bodies : List BodyCode) (number next : ℕ) (body : BodyCode) (instr : Instr) (d : Step) : Type 0 where
-  pub inside : entry_in bodies number + next < length (all_steps code first bodies)
-  pub is : get_or (all_steps code first bodies) (entry_in bodies number + next) d ≡ step_of code body (place_number (first + first_in bodies number) body.places next) instr
+prepared_length : (code : CodeProgram) (body : BodyCode) (first : ℕ) (places : List (ℕ × Place)) (at : ℕ) (instrs : List Instr) →
+    length (prepared code body first places at instrs) ≡ length instrs
+prepared_length code body first places at [] = refl
+prepared_length code body first places at (instr ∷ instrs) =
+    let rest : length (prepared code body first places (at + 1) instrs) ≡ length instrs = prepared_length code body first places (at + 1) instrs in
+    omega (arith, rest)
 
-pub step_there : (code : CodeProgram) (first : ℕ) (bodies : List BodyCode) (number next : ℕ) (body : BodyCode) (instr : Instr) (d : Step) →
+-- the steps of a body by its number, among those of bodies
+abbrev steps_at : CodeProgram → ℕ → List BodyCode → ℕ → List Step
+steps_at code first bodies number = slice_index_or (all_steps code first bodies) number []
+
+-- it is there, among the steps of its body
+record StepThere (code : CodeProgram) (first : ℕ) (bodies : List BodyCode) (number next : ℕ) (body : BodyCode) (instr : Instr) (d : Step) : Type 0 where
+  inside : next < length (steps_at code first bodies number)
+  is : get_or (steps_at code first bodies number) next d ≡ step_of code body (place_number (first + first_in bodies number) body.places next) instr
+
+step_there : (code : CodeProgram) (first : ℕ) (bodies : List BodyCode) (number next : ℕ) (body : BodyCode) (instr : Instr) (d : Step) →
     slice_get bodies number ≡ Some body → slice_get body.instrs next ≡ Some instr → StepThere code first bodies number next body instr d
 step_there code first [] number next body instr d is has = absurd (none-some body is)
 step_there code first (one ∷ bodies) zero next body instr d is has =
@@ -57,31 +66,21 @@ step_there code first (one ∷ bodies) zero next body instr d is has =
   where
     here : slice_get one.instrs next ≡ Some instr → StepThere code first (one ∷ bodies) zero next one instr d
     here has =
-        let size : length (prepared code one first one.places 0 one.instrs) ≡ length one.instrs = prepared_length code one first one.places 0 one.instrs in
-        let lt : next < length one.instrs = slice_get_within one.instrs next instr has in
-        let all : length (all_steps code first (one ∷ bodies)) ≡ length (prepared code one first one.places 0 one.instrs) + length (all_steps code (first + length one.places) bodies) = length-append (prepared code one first one.places 0 one.instrs) (all_steps code (first + length one.places) bodies) in
-        let at : 0 + next ≡ next = omega arith in
+        let size = prepared_length code one first one.places 0 one.instrs in
+        let lt = slice_get_within one.instrs next instr has in
         let from : first ≡ first + 0 = omega arith in
         record {
-          inside = omega (arith, size, lt, all);
+          inside = omega (arith, size, lt);
           is =
-              ap (λ n. get_or (all_steps code first (one ∷ bodies)) n d) at
-              ∙ (get_or_append_left (prepared code one first one.places 0 one.instrs) (all_steps code (first + length one.places) bodies) d next (omega (arith, size, lt))
-              ∙ (prepared_there code one first one.places 0 one.instrs next next instr d has (omega arith)
-              ∙ ap (λ n. step_of code one (place_number n one.places next) instr) from));
+              prepared_there code one first one.places 0 one.instrs next next instr d has (omega arith)
+              ∙ ap (λ n. step_of code one (place_number n one.places next) instr) from;
         }
 step_there code first (one ∷ bodies) (suc number) next body instr d is has =
     let rest : StepThere code (first + length one.places) bodies number next body instr d = step_there code (first + length one.places) bodies number next body instr d is has in
-    let size : length (prepared code one first one.places 0 one.instrs) ≡ length one.instrs = prepared_length code one first one.places 0 one.instrs in
-    let all : length (all_steps code first (one ∷ bodies)) ≡ length (prepared code one first one.places 0 one.instrs) + length (all_steps code (first + length one.places) bodies) = length-append (prepared code one first one.places 0 one.instrs) (all_steps code (first + length one.places) bodies) in
-    let at : length one.instrs + entry_in bodies number + next ≡ length (prepared code one first one.places 0 one.instrs) + (entry_in bodies number + next) = omega (arith, size) in
     let from : first + length one.places + first_in bodies number ≡ first + (length one.places + first_in bodies number) = omega arith in
     record {
-      inside = omega (arith, size, rest.inside, all);
-      is =
-          ap (λ n. get_or (all_steps code first (one ∷ bodies)) n d) at
-          ∙ (get_or-append-add (prepared code one first one.places 0 one.instrs) (all_steps code (first + length one.places) bodies) (entry_in bodies number + next) d
-          ∙ (rest.is ∙ ap (λ n. step_of code body (place_number n body.places next) instr) from));
+      inside = rest.inside;
+      is = rest.is ∙ ap (λ n. step_of code body (place_number n body.places next) instr) from;
     }
 
 -- ---- the place of a number
@@ -256,9 +255,9 @@ fits_at : (code : CodeProgram) (number : ℕ) (body : BodyCode) → Fits code �
 fits_at code number body fits is =
     subst (λ b. BodyFits code b) (get_or_from_slice_get code.bodies number body body is) (fits.bodies number body (slice_get_within code.bodies number body is))
 
-pub step_read : (code : CodeProgram) (number next : ℕ) (body : BodyCode) (instr : Instr) (d : Step) → Fits code →
+step_read : (code : CodeProgram) (number next : ℕ) (body : BodyCode) (instr : Instr) (d : Step) → Fits code →
     length (places_of code) ≤ no_place → slice_get code.bodies number ≡ Some body → slice_get body.instrs next ≡ Some instr →
-    IsStepAt code number next (get_or (all_steps code 0 code.bodies) (entry_of code number + next) d)
+    IsStepAt code number next (get_or (steps_at code 0 code.bodies number) next d)
 step_read code number next body instr d fits few is has =
     subst (λ s. IsStepAt code number next s) (sym (step_there code 0 code.bodies number next body instr d is has).is)
     (record {
@@ -294,14 +293,14 @@ instr_there code number next step =
     let lt : next < length there.body.instrs = subst (λ n. next < n) (steps_count code number there.body there.is) step.next_there in
     record { body = there.body; is = there.is; instr = get_or there.body.instrs next i.Pop; has = slice_get-get_or there.body.instrs next i.Pop lt }
 
-pub step_inside : (code : CodeProgram) (number next : ℕ) (steps : List Step) → steps ≡ all_steps code 0 code.bodies →
-    HasStep code number next → entry_of code number + next < length steps
+pub step_inside : (code : CodeProgram) (number next : ℕ) (steps : List (List Step)) → steps ≡ all_steps code 0 code.bodies →
+    HasStep code number next → next < length (slice_index_or steps number [])
 step_inside code number next steps are step =
     let at : HasInstr code number next = instr_there code number next step in
-    subst (λ xs. entry_of code number + next < length xs) (sym are) (step_there code 0 code.bodies number next at.body at.instr Pop at.is at.has).inside
+    subst (λ (xs : List (List Step)). next < length (slice_index_or xs number [])) (sym are) (step_there code 0 code.bodies number next at.body at.instr Pop at.is at.has).inside
 
-pub step_told : (code : CodeProgram) (number next : ℕ) (steps : List Step) (d : Step) → steps ≡ all_steps code 0 code.bodies → Fits code →
-    length (places_of code) ≤ no_place → HasStep code number next → IsStepAt code number next (get_or steps (entry_of code number + next) d)
+pub step_told : (code : CodeProgram) (number next : ℕ) (steps : List (List Step)) (d : Step) → steps ≡ all_steps code 0 code.bodies → Fits code →
+    length (places_of code) ≤ no_place → HasStep code number next → IsStepAt code number next (get_or (slice_index_or steps number []) next d)
 step_told code number next steps d are fits few step =
     let at : HasInstr code number next = instr_there code number next step in
-    subst (λ xs. IsStepAt code number next (get_or xs (entry_of code number + next) d)) (sym are) (step_read code number next at.body at.instr d fits few at.is at.has)
+    subst (λ (xs : List (List Step)). IsStepAt code number next (get_or (slice_index_or xs number []) next d)) (sym are) (step_read code number next at.body at.instr d fits few at.is at.has)

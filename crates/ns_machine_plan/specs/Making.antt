@@ -6,7 +6,7 @@ use Rattle.ns_code.specs.declared.body.BodyCode.{BodyCode}
 use Rattle.ns_code.specs.declared.instruction.Instr.{Instr}
 use Rattle.ns_code.specs.declared.instruction.Instr.TheVariants.{SendPrivate}
 use Rattle.ns_machine_plan.specs.declared.making.Draft.{Draft}
-use Rattle.ns_machine_plan.specs.Steps.{no_place, prepared, places_in}
+use Rattle.ns_machine_plan.specs.Steps.{no_place, prepared}
 use Rattle.ns_machine_plan.specs.Rows.{row_of}
 
 -- Places are in order, and belong to instructions from that number on.
@@ -24,12 +24,18 @@ abbrev pub behind : List (ℕ × SourcePlace) → ℕ → List (ℕ × SourcePla
 behind [] at = []
 behind (entry ∷ entries) at = if entry.0 == at then entries else entry ∷ entries
 
+-- No body was added.
+pub record IsEmpty (draft : Draft) : Type 0 where
+  pub steps : draft.steps ≡ []
+  pub bodies : draft.bodies.items ≡ []
+  pub places : draft.places ≡ 0
+  pub greatest : draft.greatest ≡ 0
+
 -- A body is added behind the others.
 pub record IsAdded (code : CodeProgram) (body : BodyCode) (old new : Draft) : Type 0 where
-  pub steps : new.steps ≡ old.steps ++ prepared code body (length old.places.items) body.places 0 body.instrs
-  pub bodies : new.bodies.items ≡ old.bodies.items ++ row_of (length old.bodies.items) (length old.steps) body ∷ []
-  pub places : new.places.items ≡ old.places.items ++ places_in body
-  pub few : length new.places.items ≤ no_place
+  pub steps : new.steps ≡ old.steps ++ prepared code body old.places body.places 0 body.instrs ∷ []
+  pub bodies : new.bodies.items ≡ old.bodies.items ++ row_of (length old.bodies.items) body ∷ []
+  pub places : new.places ≡ old.places + length body.places
   pub greatest : new.greatest ≡ max old.greatest (body.locals + body.height)
 
 -- A private send is of a name.

@@ -1,5 +1,5 @@
 -- Steps in eight bytes: what a packed step stands for, over the tables that hold what doesn't fit into it.
-use Rattle.std.specs.Prelude.{◌≡◌, ◌<◌, ℕ, List, [], length, map, Option, Some, None}
+use Rattle.std.specs.Prelude.{◌≡◌, ◌<◌, ℕ, List, [], ◌∷◌, ◌++◌, length, map, Option, Some, None, All}
 use Rattle.std.specs.List.{slice_index_or}
 use Rattle.ns_machine_plan.specs.declared.kept_step.KeptStep.{KeptStep}
 use Rattle.ns_machine_plan.specs.declared.kept_step.KeptSteps.{KeptSteps}
@@ -105,6 +105,15 @@ EntryIsThere tables other = Unit {0}
 pub record StandsFor (tables : Tables) (step : Step) (packed : Packed) : Type 0 where
   pub within : EntryIsThere tables packed
   pub is : unpacked tables packed ≡ step
+
+-- Packed steps, one by one, stand for those steps.
+pub record AllStandFor (tables : Tables) (steps : List Step) (packed : List Packed) : Type 0 where
+  pub within : All (EntryIsThere tables) packed
+  pub are : map (unpacked tables) packed ≡ steps
+
+-- Where the packed steps stood for some steps, they stand for these and one more behind them.
+abbrev pub IsPut : Tables → Tables → List Packed → List Packed → Step → Type 0
+IsPut old new packed longer step = (steps : List Step) → AllStandFor old steps packed → AllStandFor new (steps ++ step ∷ []) longer
 
 -- What stood for a step over the old tables stands for it over the new ones.
 pub record StandsForSame (old new : Tables) : Type 0 where

@@ -16,11 +16,12 @@ use Rattle.ns_machine_plan.specs.Steps.{all_steps, places_of, no_place, place_of
 use Rattle.ns_machine_plan.specs.Rows.{all_rows}
 use Rattle.ns_moves.specs.Bodies.{greatest_of}
 
--- A plan has the steps, the bodies, the places and the selectors of a code that is sound, and the size of its greatest frame.
+-- A plan has the steps, the bodies and the selectors of a code that is sound, how many places it has, and the size of its greatest
+-- frame.
 pub record IsPlanOf (code : CodeProgram) (plan : Plan) : Type 0 where
   pub steps : plan.steps ≡ all_steps code 0 code.bodies
-  pub bodies : plan.bodies ≡ all_rows 0 0 code.bodies
-  pub places : plan.places ≡ places_of code
+  pub bodies : plan.bodies ≡ all_rows 0 code.bodies
+  pub place_count : plan.place_count ≡ length (places_of code)
   pub few : length (places_of code) ≤ no_place
   pub selectors : IsTableOf code plan.selectors
   pub greatest : plan.greatest ≡ greatest_of code.bodies

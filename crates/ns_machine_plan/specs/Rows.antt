@@ -1,5 +1,5 @@
 -- What is asked of each body.
-use Rattle.std.specs.Prelude.{◌≡◌, ℕ, zero, suc, ◌+◌, List, [], ◌∷◌, length, Some, ◌==◌, if◌then◌else◌}
+use Rattle.std.specs.Prelude.{◌≡◌, ℕ, ◌+◌, List, [], ◌∷◌, Some, ◌==◌, if◌then◌else◌}
 use Rattle.ns_code.specs.declared.program.CodeProgram.{CodeProgram}
 use Rattle.ns_code.specs.declared.body.BodyCode.{BodyCode}
 use Rattle.ns_code.specs.Soundness.{class_side}
@@ -10,20 +10,10 @@ use Rattle.ns_moves.specs.Fitting.{environment_body, locals_beside, kind_of}
 use Rattle.ns_moves.specs.Lawful.{declaration_of_body}
 use Rattle.ns_machine_plan.specs.declared.row.Row.{Row}
 
--- where the steps of a body begin among those of all bodies
-abbrev pub entry_in : List BodyCode → ℕ → ℕ
-entry_in [] body = 0
-entry_in (first ∷ bodies) zero = 0
-entry_in (first ∷ bodies) (suc body) = length first.instrs + entry_in bodies body
-
-abbrev pub entry_of : CodeProgram → ℕ → ℕ
-entry_of code body = entry_in code.bodies body
-
--- the row of a body by its number, whose steps begin there
-abbrev pub row_of : ℕ → ℕ → BodyCode → Row
-row_of number entry body =
+-- the row of a body by its number
+abbrev pub row_of : ℕ → BodyCode → Row
+row_of number body =
     record {
-      entry = entry;
       class = body.class;
       params = body.params;
       locals = body.locals;
@@ -36,14 +26,13 @@ row_of number entry body =
       around = if body.environment then Some number else body.parent;
     }
 
--- the rows of bodies, of which the first has that number and begins there
-abbrev pub all_rows : ℕ → ℕ → List BodyCode → List Row
-all_rows number entry [] = []
-all_rows number entry (body ∷ bodies) = row_of number entry body ∷ all_rows (number + 1) (entry + length body.instrs) bodies
+-- the rows of bodies, of which the first has that number
+abbrev pub all_rows : ℕ → List BodyCode → List Row
+all_rows number [] = []
+all_rows number (body ∷ bodies) = row_of number body ∷ all_rows (number + 1) bodies
 
 -- A row is that of a body.
 pub record IsRowOf (code : CodeProgram) (body : ℕ) (row : Row) : Type 0 where
-  pub entry : row.entry ≡ entry_of code body
   pub class : Some row.class ≡ declaration_of_body code body
   pub params : row.params ≡ parameters_of code body
   pub locals : row.locals ≡ locals_of code body

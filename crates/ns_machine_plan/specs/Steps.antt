@@ -1,4 +1,4 @@
--- The steps of code, one body behind the other, and the places of its sends, in the order of the code.
+-- The steps of code, body by body, and the places of its sends, in the order of the code.
 use Rattle.std.specs.Prelude.{◌≡◌, ℕ, ◌+◌, List, [], ◌∷◌, ◌++◌, length, map, Option, None, slice_get, ◌==◌, if◌then◌else◌}
 use Rattle.ns_base.specs.declared.place.Place.{Place as SourcePlace}
 use Rattle.ns_base.specs.declared.selector.Sel.{Sel}
@@ -60,11 +60,11 @@ prepared code body first places at [] = []
 prepared code body first places at (instr ∷ instrs) =
     step_of code body (place_number first places at) instr ∷ prepared code body first places (at + 1) instrs
 
--- the steps of bodies, whose places are numbered from that number on
-abbrev pub all_steps : CodeProgram → ℕ → List BodyCode → List Step
+-- the steps of each of some bodies, whose places are numbered from that number on
+abbrev pub all_steps : CodeProgram → ℕ → List BodyCode → List (List Step)
 all_steps code first [] = []
 all_steps code first (body ∷ bodies) =
-    prepared code body first body.places 0 body.instrs ++ all_steps code (first + length body.places) bodies
+    prepared code body first body.places 0 body.instrs ∷ all_steps code (first + length body.places) bodies
 
 -- the places of a body
 abbrev pub places_in : BodyCode → List SourcePlace

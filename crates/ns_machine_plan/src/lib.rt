@@ -13,6 +13,7 @@ pub mod packed;
 mod packed_steps;
 pub mod plan;
 mod privates;
+mod room;
 pub mod row;
 mod spelled;
 pub mod step;

@@ -1,10 +1,10 @@
 //! Making a plan, body by body.
 
-ghost use Rattle.std.specs.Prelude.{◌≡◌, ◌+◌, ◌<◌, ◌≤◌, [], ◌++◌, length, max, All, OnOk};
+ghost use Rattle.std.specs.Prelude.{◌≡◌, ◌+◌, ◌<◌, ◌≤◌, length, max, All, IfOk, OnOk};
 ghost use Rattle.ns_code.specs.Fits.{BodyFits};
-ghost use Rattle.ns_machine_plan.specs.Steps.{no_place, places_in};
+ghost use Rattle.ns_machine_plan.specs.Steps.{no_place};
 ghost use Rattle.ns_machine_plan.specs.Rows.{row_of};
-ghost use Rattle.ns_machine_plan.specs.Making.{IsAdded, SendsAName};
+ghost use Rattle.ns_machine_plan.specs.Making.{IsEmpty, IsAdded, SendsAName};
 ghost use Rattle.ns_machine_plan.specs.Spelled.{AreRowsOf};
 ghost use Rattle.ns_machine_plan.specs.Members.{ArePrivatesOf};
 
@@ -12,40 +12,36 @@ use crate::members::Privates;
 use crate::packed_steps::PackedSteps;
 use crate::row::Row;
 use crate::spelled::SpelledRows;
-use crate::step::NO_PLACE;
-use crate::steps::add_steps;
 use ns_base::no_memory::NoMemory;
-use ns_base::place::Place;
 use ns_code::body::BodyCode;
 use ns_code::program::CodeProgram;
 use std::alloc::Global;
 
-/// What a plan has of the bodies that were added.
+/// What a plan has of the bodies that were added, and how many places these have.
 #[derive(Drop)]
 pub struct Draft {
     pub steps: PackedSteps,
     pub bodies: Vec<Row>,
-    pub places: Vec<Place>,
+    pub places: u32,
     pub greatest: u32,
 }
 
 impl Draft {
-    /// No body yet.
-    pub fn new(alloc: Global) -> Draft
-        ensures steps { result.steps ≡ [] }
-        ensures bodies { result.bodies.items ≡ [] }
-        ensures places { result.places.items ≡ [] }
-        ensures greatest { result.greatest ≡ 0 }
+    /// No body yet, with room for so many and for as many sends as they have places.
+    pub fn with_room(alloc: Global, bodies: usize, places: u32) -> Result<Draft, NoMemory>
+        ensures { IfOk result IsEmpty }
     {
-        Draft {
-            steps: PackedSteps::new(alloc),
-            bodies: Vec::new(alloc),
-            places: Vec::new(alloc),
+        let steps = PackedSteps::with_room(alloc, bodies, places as usize)?;
+        let rows = Vec::with_capacity(alloc, bodies)?;
+        Ok(Draft {
+            steps,
+            bodies: rows,
+            places: 0,
             greatest: 0,
-        }
+        })
     }
 
-    /// Adds a body. More places than have numbers find no memory.
+    /// Adds a body.
     pub fn add(
         &mut self,
         alloc: Global,
@@ -59,36 +55,24 @@ impl Draft {
         requires body { BodyFits code.now body.now }
         requires names { All (SendsAName code.now) body.now.instrs }
         requires number { length self.old.bodies.items < 65536 }
-        requires room { length self.old.places.items ≤ no_place }
+        requires places { self.old.places + length body.now.places ≤ no_place }
         ensures { OnOk result (IsAdded code.now body.now self.old self.new) }
     {
-        if body.places.len() > NO_PLACE as usize - self.places.len() {
-            return Err(NoMemory);
-        }
-        let instrs = body.instrs.to_vec(alloc)?;
-        let row = row_of(self.bodies.len() as u32, self.steps.len(), body);
-        add_steps(
-            &mut self.steps,
-            code,
-            privates,
-            rows,
-            body,
-            &instrs,
-            self.places.len() as u32,
-        )?;
-        add_places(&mut self.places, body)?;
+        let row = row_of(self.bodies.len() as u32, body);
+        self.steps
+            .add(alloc, code, privates, rows, body, self.places)?;
         self.bodies.push(row)?;
+        self.places += body.places.len() as u32;
         self.greatest = greater(self.greatest, frame_size(body));
         Ok(())
     }
 }
 
-/// The row of a body by its number, whose steps begin there.
-fn row_of(number: u32, entry: usize, body: &BodyCode) -> Row
-    ensures { result ≡ row_of number entry body.now }
+/// The row of a body by its number.
+fn row_of(number: u32, body: &BodyCode) -> Row
+    ensures { result ≡ row_of number body.now }
 {
     Row {
-        entry,
         class: body.class,
         params: body.params,
         locals: body.locals,
@@ -118,14 +102,4 @@ fn greater(one: u32, other: u32) -> u32
     ensures { result ≡ max one other }
 {
     one.max(other)
-}
-
-/// Adds the places of a body.
-fn add_places(places: &mut Vec<Place>, body: &BodyCode) -> Result<(), NoMemory>
-    ensures { OnOk result (places.new.items ≡ places.old.items ++ places_in body.now) }
-{
-    'places: for (_, place) in body.places.as_slice() {
-        places.push(*place)?;
-    }
-    Ok(())
 }

@@ -12,12 +12,12 @@ use crate::kept_step::{KeptSteps, kept_at, step_in};
 use crate::making::Draft;
 use crate::members::Privates;
 use crate::packed_steps::PackedSteps;
+use crate::room::place_count;
 use crate::row::Row;
 use crate::spelled::SpelledRows;
 use crate::step::Step;
 use ns_base::items::Items;
 use ns_base::no_memory::NoMemory;
-use ns_base::place::Place;
 use ns_base::selector::Sel;
 use ns_code::own::Own;
 use ns_code::program::CodeProgram;
@@ -26,13 +26,13 @@ use ns_verify::laws::sound_instructions_are_usable;
 use ns_verify::verify::Verified;
 use std::alloc::Global;
 
-/// Code prepared for running: its steps, one body behind the other; a row for each body; the places of its sends, in
-/// the order of the code; its selectors; and the greatest number of locals and operands of a body.
+/// Code prepared for running: the steps of each body; a row for each body; how many places the code has; its selectors;
+/// and the greatest number of locals and operands of a body.
 #[derive(Drop)]
 pub struct Plan {
     steps: PackedSteps,
     bodies: Items<Row>,
-    places: Items<Place>,
+    place_count: u32,
     selectors: SelectorTable,
     greatest: u32,
 }
@@ -47,14 +47,15 @@ impl Plan {
         let privates = Privates::new(alloc, code)?;
         let rows = SpelledRows::new(alloc, code)?;
         sound_instructions_are_usable();
-        let mut draft = Draft::new(alloc);
+        let place_count = place_count(code.bodies.as_slice())?;
+        let mut draft = Draft::with_room(alloc, code.bodies.len(), place_count)?;
         'bodies: for body in code.bodies.as_slice() {
             draft.add(alloc, code, &privates, &rows, body)?;
         }
         Ok(Plan {
             steps: draft.steps,
             bodies: Items::from_vec(draft.bodies),
-            places: Items::from_vec(draft.places),
+            place_count,
             selectors,
             greatest: draft.greatest,
         })
@@ -71,7 +72,7 @@ impl Plan {
         &self.bodies.as_slice()[body as usize]
     }
 
-    /// The step of that number of a body. Its place is the one of its number among the places.
+    /// The step of that number of a body. Its place is the one of its number among the places of the code.
     #[inline(always)]
     pub fn step(&self, code: &CodeProgram, body: u32, next: u32) -> Step
         requires plan { IsPlanOf code.now self.now }
@@ -88,14 +89,15 @@ impl Plan {
         requires there { body < length code.now.bodies }
         ensures { AreStepsOf code.now body result }
     {
-        self.steps.from(self.row(code, body).entry)
+        let _code = code;
+        self.steps.of_body(body)
     }
 
-    /// The places of the code, in its order. A step's place has its number here.
-    pub fn places(&self) -> &[Place]
-        ensures { (code : CodeProgram) → IsPlanOf code self.now → result.now ≡ places_of code }
+    /// How many places the code has. A step's place has its number among them, in the order of the code.
+    pub fn place_count(&self) -> u32
+        ensures { (code : CodeProgram) → IsPlanOf code self.now → result ≡ length (places_of code) }
     {
-        self.places.as_slice()
+        self.place_count
     }
 
     /// How many arguments a selector takes.

@@ -1,12 +1,11 @@
 //! Bodies, as the machine asks for them.
 
-/// What the machine asks of a body: where its steps begin among all steps; its declaration; how many parameters it
-/// has, and how many parameters and locals; whether these stand in an environment, and else how many stand beside it;
-/// how many operands it has at most; whether it stands on the class side; its kind; the body in which it stands; and
-/// the body whose locals its environment has, its own or the one around it.
+/// What the machine asks of a body: its declaration; how many parameters it has, and how many parameters and locals;
+/// whether these stand in an environment, and else how many stand beside it; how many operands it has at most; whether
+/// it stands on the class side; its kind; the body in which it stands; and the body whose locals its environment has,
+/// its own or the one around it.
 #[derive(Clone, Copy)]
 pub struct Row {
-    pub entry: usize,
     pub class: u32,
     pub params: u8,
     pub locals: u8,

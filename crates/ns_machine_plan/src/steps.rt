@@ -1,18 +1,20 @@
 //! The steps of one body.
 
-ghost use Rattle.std.specs.Prelude.{◌≡◌, ◌+◌, ◌++◌, ◌≤◌, ◌<◌, length, All, OnOk};
+ghost use Rattle.std.specs.Prelude.{◌≡◌, ◌+◌, ◌≤◌, ◌<◌, length, All, IfOk, OnOk};
 ghost use Rattle.ns_machine_plan.specs.declared.step.Step.TheVariants as made;
 ghost use Rattle.ns_machine_plan.specs.Members.{ArePrivatesOf};
+ghost use Rattle.ns_machine_plan.specs.Packed.{AllStandFor, IsPut, StandsForSame};
 ghost use Rattle.ns_machine_plan.specs.Privates.{member_at};
 ghost use Rattle.ns_machine_plan.specs.Steps as spec;
 ghost use Rattle.ns_machine_plan.specs.Spelled.{AreRowsOf, spelled_by};
 ghost use Rattle.ns_machine_plan.specs.Making.{AreFrom, SendsAName, number_at, behind};
 
 use crate::members::Privates;
-use crate::packed_steps::PackedSteps;
+use crate::packed::Packed;
 use crate::privates::member_at;
 use crate::spelled::SpelledRows;
 use crate::step::{NO_PLACE, Step};
+use crate::tables::Tables;
 use ns_base::no_memory::NoMemory;
 use ns_base::place::Place;
 use ns_base::selector::Sel;
@@ -20,35 +22,50 @@ use ns_code::body::BodyCode;
 use ns_code::instruction::Instr;
 use ns_code::program::CodeProgram;
 use ns_find::found::Sending;
+use std::alloc::Global;
 
-/// Adds the steps of a body, whose places are numbered from that number on.
-pub fn add_steps(
-    steps: &mut PackedSteps,
+/// Packs the steps of a body, whose places are numbered from that number on, into a list of its size.
+pub fn pack_steps(
+    alloc: Global,
+    tables: &mut Tables,
     code: &CodeProgram,
     privates: &Privates,
     rows: &SpelledRows,
     body: &BodyCode,
-    instrs: &[Instr],
     first: u32,
-) -> Result<(), NoMemory>
+) -> Result<Vec<Packed>, NoMemory>
     requires privates { ArePrivatesOf code.now privates.now }
     requires rows { AreRowsOf code.now rows.now }
-    requires instrs { instrs.now ≡ body.now.instrs }
     requires names { All (SendsAName code.now) body.now.instrs }
     requires few { length body.now.instrs ≤ 65536 }
     requires order { AreFrom 0 body.now.places }
     requires numbers { first + length body.now.places ≤ spec.no_place }
-    ensures { OnOk result (steps.new ≡ steps.old ++ spec.prepared code.now body.now first body.now.places 0 body.now.instrs) }
+    ensures keeps { StandsForSame tables.old tables.new }
+    ensures packed { IfOk result (λ packed.
+        AllStandFor tables.new (spec.prepared code.now body.now first body.now.places 0 body.now.instrs) packed.items) }
 {
+    let instrs = body.instrs.to_vec(alloc)?;
+    let mut packed = Vec::with_capacity(alloc, instrs.len())?;
     let end = first + body.places.len() as u32;
     let mut left = body.places.as_slice();
     let mut at: u32 = 0;
-    'instrs: for instr in instrs {
+    'instrs: for instr in instrs.as_slice() {
         let place = number_at(left, end, at);
-        steps.push(step_of(code, privates, rows, body, place, *instr))?;
+        let step = step_of(code, privates, rows, body, place, *instr);
+        put_step(tables, &mut packed, step)?;
         left = behind(left, at);
         at += 1;
     }
+    Ok(packed)
+}
+
+/// Packs a step, and puts it behind others.
+fn put_step(tables: &mut Tables, packed: &mut Vec<Packed>, step: Step) -> Result<(), NoMemory>
+    ensures keeps { StandsForSame tables.old tables.new }
+    ensures put { OnOk result (IsPut tables.old tables.new packed.old.items packed.new.items step) }
+{
+    let one = tables.pack(step)?;
+    packed.push(one)?;
     Ok(())
 }
 

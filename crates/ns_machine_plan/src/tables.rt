@@ -21,16 +21,17 @@ pub struct Tables {
 }
 
 impl Tables {
-    /// Empty tables.
-    pub fn new(alloc: Global) -> Tables
-        ensures { spec.AreEmpty result }
+    /// Empty tables, with room for so many sends to values.
+    pub fn with_room(alloc: Global, sends: usize) -> Result<Tables, NoMemory>
+        ensures { IfOk result spec.AreEmpty }
     {
-        Tables {
+        let sends = Vec::with_capacity(alloc, sends)?;
+        Ok(Tables {
             integers: Vec::new(alloc),
-            sends: Vec::new(alloc),
+            sends,
             privates: Vec::new(alloc),
             supers: Vec::new(alloc),
-        }
+        })
     }
 
     /// Packs a step. What doesn't fit gets the next number of its table; more than have numbers find no memory.

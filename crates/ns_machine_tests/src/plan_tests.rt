@@ -1,4 +1,4 @@
-//! A small image that is prepared: its places, rows and selectors.
+//! A small image that is prepared: its steps, rows and selectors, and how many places it has.
 
 ghost use Rattle.ns_machine_plan.specs.Plan.{IsPlanOf};
 
@@ -6,7 +6,9 @@ use ns_base::selector::Sel;
 use ns_code::own::Own;
 use ns_code::program::CodeProgram;
 use ns_image::read::read;
+use ns_machine_plan::kept_step::{kept_at, step_in};
 use ns_machine_plan::plan::Plan;
+use ns_machine_plan::step::Step;
 use ns_verify::verify::verify;
 use std::alloc::Global;
 
@@ -29,12 +31,43 @@ const IMAGE: [u8; 372] = [
     6, 0, 0, 0, 7, 0, 0, 0, 4, 0, 0, 0, 0, 0, 0, 0, 7, 0, 0, 0, 3,
 ];
 
-/// Whether the places are those of the sends, in order.
-fn has_places(plan: &Plan) -> bool {
-    let [_, first, second, third, last] = plan.places() else {
+/// The number of the place of a step of a body, if it is a send.
+fn place_at(plan: &Plan, code: &CodeProgram, body: u32, next: u32) -> Option<u32>
+    requires { IsPlanOf code.now plan.now }
+{
+    if body as usize >= code.bodies.len() {
+        return None;
+    }
+    let steps = plan.steps_of(code, body);
+    if next as usize >= steps.packed.len() {
+        return None;
+    }
+    match step_in(kept_at(steps, next)) {
+        Step::Send { place, .. } => Some(place),
+        Step::SendPrivate { place, .. } => Some(place),
+        _ => None,
+    }
+}
+
+/// Whether the sends of bodies 1 and 2 have the places behind that of body 0, in order.
+fn has_places(plan: &Plan, code: &CodeProgram) -> bool
+    requires { IsPlanOf code.now plan.now }
+{
+    plan.place_count() == 5
+        && place_at(plan, code, 1, 0) == Some(1)
+        && place_at(plan, code, 1, 2) == Some(2)
+        && place_at(plan, code, 2, 2) == Some(3)
+        && place_at(plan, code, 2, 4) == Some(4)
+}
+
+/// Whether a body has so many steps.
+fn has_steps(plan: &Plan, code: &CodeProgram, body: u32, count: usize) -> bool
+    requires { IsPlanOf code.now plan.now }
+{
+    if body as usize >= code.bodies.len() {
         return false;
-    };
-    first.line == 4 && second.col == 9 && third.line == 6 && last.col == 3
+    }
+    plan.steps_of(code, body).packed.len() == count
 }
 
 /// Whether selectors have their arities and numbers.
@@ -43,14 +76,13 @@ fn has_selectors(plan: &Plan) -> bool {
 }
 
 /// Whether a body has such a row.
-fn has_row(plan: &Plan, code: &CodeProgram, body: u32, entry: usize, height: u16) -> bool
+fn has_row(plan: &Plan, code: &CodeProgram, body: u32, height: u16) -> bool
     requires { IsPlanOf code.now plan.now }
 {
     if body as usize >= code.bodies.len() {
         return false;
     }
-    let row = plan.row(code, body);
-    row.entry == entry && row.height == height
+    plan.row(code, body).height == height
 }
 
 fn is_prepared(alloc: Global) -> bool {
@@ -64,9 +96,11 @@ fn is_prepared(alloc: Global) -> bool {
         return false;
     };
     let code = verified.code();
-    has_places(&plan)
-        && has_row(&plan, code, 1, 4, 1)
-        && has_row(&plan, code, 2, 8, 2)
+    has_places(&plan, code)
+        && has_steps(&plan, code, 1, 4)
+        && has_steps(&plan, code, 2, 6)
+        && has_row(&plan, code, 1, 1)
+        && has_row(&plan, code, 2, 2)
         && plan.greatest_frame() == 3
         && has_selectors(&plan)
 }

@@ -1,4 +1,4 @@
-use Rattle.std.proofs.Common.{length, ap, sym, subst, ◌∙◌}
+use Rattle.std.proofs.Common.{ap, sym, subst, ◌∙◌}
 use Rattle.ns_code.specs.declared.program.CodeProgram.{CodeProgram}
 use Rattle.ns_code.specs.Fits.{Fits}
 use Rattle.ns_verify.specs.Verify.{IsSound}
@@ -27,7 +27,7 @@ pub own_sends-self-inside-requires-clause-places : goal.own_sends-self-inside-re
 own_sends-self-inside-requires-clause-places c =
     let m = c.self.inside in
     subst (λ (code : CodeProgram). BeginsWithPlaces code c.thaw-to.new.core.places) (sym c.code-2.ensures.code)
-    (front_kept m.code m.core c.thaw-to.new.core (length c.places.result.now) (ap length (c.places.ensures m.code c.self.invariant.prepared)) c.self.invariant.places
+    (front_kept m.code m.core c.thaw-to.new.core c.place_count-first.result (c.place_count-first.ensures m.code c.self.invariant.prepared) c.self.invariant.places
     c.thaw-to.ensures.stays)
 
 pub invariant_of-self : goal.invariant_of-self
@@ -38,8 +38,8 @@ invariant_of-self c =
     let own = c.own_sends-self-inside.result in
     let valid : IsValid m.code frozen = subst (λ (shown : MachineView). IsValid shown.code frozen) (sym c.self.view_is) c.requires.valid in
     subst (λ (stage : Stage). IsMachine m.code frozen.grants m.plan new own stage) (sym c.stage_of-self-inside.ensures)
-    (restored_machine m.code m.grants m.plan m.core new own m.own m.stage frozen (length c.places.result.now) c.thaw-to.result
-    (ap length (c.places.ensures m.code c.self.invariant.prepared)) c.self.invariant
+    (restored_machine m.code m.grants m.plan m.core new own m.own m.stage frozen c.place_count-first.result c.thaw-to.result
+    (c.place_count-first.ensures m.code c.self.invariant.prepared) c.self.invariant
     (c.valid_states_thaw.ensures m.code frozen
     (record {
       sound = subst IsSound c.code.ensures.code c.code.ensures.sound;
@@ -49,5 +49,5 @@ invariant_of-self c =
           (c.requires.limits ∙ sym (ap (λ (shown : MachineView). (world_of shown.state).limits) c.self.view_is));
     })
     valid)
-    (subst (λ (code : CodeProgram). IsThawed code (length c.places.result.now) frozen m.core new c.thaw-to.result) c.code.ensures.code c.thaw-to.ensures)
+    (subst (λ (code : CodeProgram). IsThawed code c.place_count-first.result frozen m.core new c.thaw-to.result) c.code.ensures.code c.thaw-to.ensures)
     (subst (λ (code : CodeProgram). AreOwn code new.places own) c.code-2.ensures.code c.own_sends-self-inside.ensures))
