@@ -54,8 +54,15 @@ impl Replay {
         turns_are_a_function();
         let mut machine = machine;
         let _idle = machine.idle();
-        let start = machine.freeze(alloc)?;
-        let kept = Slab::with_capacity(alloc, MOST_KEPT)?;
+        let Ok(start) = machine.freeze(alloc) else {
+            drop(machine);
+            return Err(NoMemory);
+        };
+        let Ok(kept) = Slab::with_capacity(alloc, MOST_KEPT) else {
+            drop(start);
+            drop(machine);
+            return Err(NoMemory);
+        };
         let _turn = machine.turn(0);
         Ok(Replay {
             alloc,

@@ -60,8 +60,8 @@ fn told_with(alloc: Global, machine: &Machine, ending: Ending) -> Result<Run, No
     requires { IsLiveEnding (world_of machine.now.state).cells machine.now.code ending }
     ensures { IfOk result (λ run. run ≡ spec.told_with machine.now.code machine.now.state ending) }
 {
-    let end = told_end(alloc, machine, ending)?;
     let output = Text::of(alloc, machine.output())?;
+    let end = told_end(alloc, machine, ending)?;
     Ok(Run {
         end,
         output,
